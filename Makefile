@@ -38,6 +38,7 @@ test:
 	RT_JOBS=$(checks) rt ci
 	python3 tests/program/check.py
 	python3 tests/out-of-memory/check.py
+	python3 tests/mutants/texts.py
 
 quick:
 	@echo 'quick: this build is not proved; it asks two catalogues over TCP, in one process'

@@ -22,7 +22,8 @@ IsRecordOf n None = (v : Record) → WritesRecord v n → ⊥
 
 -- reading the element that was built of a record returns this record
 abbrev pub RecordReadBack : Type 0
-RecordReadBack = (v : Record) (n : Element) (o : Option Record) → record_spelling v ≡ Some n → IsRecordOf n o → o ≡ Some v
+RecordReadBack = (v : Record) (n : Element) (o : Option Record)
+    → record_spelling v ≡ Some n → IsRecordOf n o → o ≡ Some v
 
 -- the diagnostic that the element stands for; none if it stands for none
 abbrev pub IsDiagOf : Element → Option DiagRec → Type 0

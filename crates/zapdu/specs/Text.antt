@@ -72,6 +72,7 @@ retrieval_text hex r (Some p) =
     codes "rec " ++ dotted p.0 ++ codes " " ++ quoted_or_dash r.name ++ codes " " ++ octets_text hex p.1
 retrieval_text hex r None = ber_text (whole_record.spelling r)
 
+-- a record by what its body is: `rec` or `ber`, `diag DB DIAGNOSTIC`, or the whole record as `ber` for a fragment
 abbrev pub body_text : Bool → Record → RecordBody → List ℕ
 body_text hex r (Retrieval v) = retrieval_text hex r (octets_alone v.direct v.indirect v.descriptor v.content)
 body_text hex r (Surrogate d) = codes "diag " ++ quoted_or_dash r.name ++ codes " " ++ diag_text d

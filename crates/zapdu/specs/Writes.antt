@@ -21,6 +21,7 @@ use Rattle.zapdu.specs.Productions.PresentRequests.{present_request_parts}
 use Rattle.zapdu.specs.Productions.PresentResponses.{present_response_parts}
 use Rattle.zapdu.specs.Productions.Closes.{close_parts}
 
+-- which of the seven kinds the APDU is, without its fields
 abbrev pub kind_of : Apdu → Kind
 kind_of (apdus.InitRequest v) = kinds.InitRequest
 kind_of (apdus.InitResponse v) = kinds.InitResponse

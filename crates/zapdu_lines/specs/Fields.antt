@@ -16,6 +16,7 @@ reference_text (Some octets) = encode_lower octets
 abbrev pub number_text : ℤ → List ℕ
 number_text n = codes " " ++ signed_decimal n
 
+-- numbers in decimal, each after a space
 abbrev pub numbers_text : List ℤ → List ℕ
 numbers_text ns = flat_map number_text ns
 
@@ -41,4 +42,5 @@ start_text kind reference = apdu_kind_name kind ++ codes " " ++ reference_text r
 
 -- the line of the kind's name, the reference id and numbers
 unfoldable pub head_line : Kind → Option (List ℕ) → List ℤ → List ℕ
-head_line kind reference ns = apdu_kind_name kind ++ codes " " ++ reference_text reference ++ numbers_text ns ++ codes "\n"
+head_line kind reference ns =
+    apdu_kind_name kind ++ codes " " ++ reference_text reference ++ numbers_text ns ++ codes "\n"

@@ -12,12 +12,15 @@ use Rattle.zapdu.specs.declared.productions.search_query.SearchQuery.TheVariants
 use Rattle.zapdu.specs.declared.productions.search_request.SearchRequest.{SearchRequest}
 use Rattle.zapdu_lines.specs.Fields.{start_text, numbers_text, truth_text, name_field}
 
+-- the line of one of databaseNames, with the name in quotes
 abbrev pub searched_database_line : List ℕ → List ℕ
 searched_database_line name = codes "  db " ++ quoted name ++ codes "\n"
 
+-- the lines of databaseNames, one for each database, in their order
 abbrev pub searched_database_lines : List (List ℕ) → List ℕ
 searched_database_lines names = flat_map searched_database_line names
 
+-- the line of preferredRecordSyntax, its arcs with dots between them, or nothing if the request has no such field
 abbrev pub optional_syntax : Option (List ℕ) → List ℕ
 optional_syntax None = []
 optional_syntax (Some arcs) = codes "  syntax " ++ dotted arcs ++ codes "\n"
@@ -26,10 +29,12 @@ optional_syntax (Some arcs) = codes "  syntax " ++ dotted arcs ++ codes "\n"
 abbrev pub type_1_text : RpnQuery → List ℕ
 type_1_text q = if printable q then query_text q else ber_text (query_spelling q)
 
+-- a query of type 1 in the prefix notation or as `ber`; a query of another type always as `ber`
 abbrev pub search_query_text : SearchQuery → List ℕ
 search_query_text (queries.Rpn q) = type_1_text q
 search_query_text (queries.Other n) = ber_text (Some n)
 
+-- the line of the query, the last one of a SearchRequest
 abbrev pub query_line : SearchQuery → List ℕ
 query_line q = codes "  query " ++ search_query_text q ++ codes "\n"
 
@@ -40,6 +45,8 @@ search_line v =
     ++ numbers_text (v.small_set_upper_bound ∷ v.large_set_lower_bound ∷ v.medium_set_present_number ∷ [])
     ++ truth_text v.replace_indicator ++ name_field (Some v.result_set_name) ++ codes "\n"
 
+-- the first line, then the lines of the databases, of the preferred record syntax and of the query
 abbrev pub search_request_text : SearchRequest → List ℕ
 search_request_text v =
-    search_line v ++ searched_database_lines v.database_names ++ optional_syntax v.preferred_record_syntax ++ query_line v.query
+    search_line v ++ searched_database_lines v.database_names ++ optional_syntax v.preferred_record_syntax
+    ++ query_line v.query

@@ -47,13 +47,17 @@ b90d9801009901009b0105bf814d00 presentResponse - 0 0 5 many -
 "#;
 
 fn apdu_encoding(alloc: Global, apdu: &Apdu) -> Result<String, Unread> {
-    let node = read(apdu_node(alloc, apdu))?;
-    Ok(encoding(alloc, &node)?)
+    let Ok(node) = apdu_node(alloc, apdu) else {
+        return Err(Unread);
+    };
+    read(encoding(alloc, &node))
 }
 
 // Whether this is an APDU's canonical encoding and its fields.
 fn has_line(alloc: Global, apdu: &Apdu, due: &str) -> Result<bool, Unread> {
-    let encoding = apdu_encoding(alloc, apdu)?;
+    let Ok(encoding) = apdu_encoding(alloc, apdu) else {
+        return Err(Unread);
+    };
     let mut line = Line::new(alloc);
     line.put(encoding.as_bytes());
     put_apdu(alloc, apdu, &mut line);
@@ -61,41 +65,53 @@ fn has_line(alloc: Global, apdu: &Apdu, due: &str) -> Result<bool, Unread> {
 }
 
 fn has_line_copied(alloc: Global, apdu: &Apdu, due: &str) -> Result<bool, Unread> {
-    let copy = apdu_copy(alloc, apdu)?;
+    let Ok(copy) = apdu_copy(alloc, apdu) else {
+        return Err(Unread);
+    };
     has_line(alloc, &copy, due)
 }
 
 // Whether an element is an APDU of which a copy has this line.
 fn stands_for(alloc: Global, node: &Node, due: &str) -> Result<bool, Unread> {
-    let apdu = apdu_of(alloc, node)?;
+    let Ok(apdu) = apdu_of(alloc, node) else {
+        return Err(Unread);
+    };
     has_line_copied(alloc, &apdu, due)
 }
 
 fn stands_for_copied(alloc: Global, node: &Node, due: &str) -> Result<bool, Unread> {
-    let copy = node.copy(alloc)?;
+    let Ok(copy) = node.copy(alloc) else {
+        return Err(Unread);
+    };
     stands_for(alloc, &copy, due)
 }
 
 // Whether octets spell an APDU of this line.
 pub(crate) fn is_line(alloc: Global, octets: &[u8], due: &str) -> Result<bool, Unread> {
-    let node = message(alloc, octets)?;
+    let Ok(node) = message(alloc, octets) else {
+        return Err(Unread);
+    };
     stands_for_copied(alloc, &node, due)
 }
 
 fn is_read(alloc: Global, row: &str) -> Result<bool, Unread> {
     let (digits, _) = pair(row);
-    let octets = octets(alloc, digits)?;
+    let Ok(octets) = octets(alloc, digits) else {
+        return Err(Unread);
+    };
     is_line(alloc, octets.as_slice(), row)
 }
 
 #[test]
 fn each_apdu_is_read_and_written(rt: HostRuntime) -> Result<(), Fail> {
-    each_row(rt.alloc(), APDUS, &is_read)
+    each_row(rt.alloc(), APDUS, is_read)
 }
 
 fn put_lines(alloc: Global, records: &[Record], out: &mut Vec<u8>) -> Result<(), AllocError> {
     for record in records {
-        print_record(alloc, record, false, out)?;
+        if print_record(alloc, record, false, out).is_err() {
+            return Err(AllocError);
+        }
     }
     Ok(())
 }
@@ -108,16 +124,22 @@ fn put_texts(alloc: Global, apdu: &Apdu, out: &mut Vec<u8>) -> Result<(), Unread
                 records: Some(Records::List(records)),
                 ..
             },
-        ) => { Ok(put_lines(alloc, records.as_slice(), out)?) }
+        ) => read(put_lines(alloc, records.as_slice(), out)),
         _ => Err(Unread),
     }
 }
 
 fn texts(alloc: Global, digits: &str) -> Result<Vec<u8>, Unread> {
-    let node = element(alloc, digits)?;
-    let apdu = apdu_of(alloc, &node)?;
+    let Ok(node) = element(alloc, digits) else {
+        return Err(Unread);
+    };
+    let Ok(apdu) = apdu_of(alloc, &node) else {
+        return Err(Unread);
+    };
     let mut out = Vec::new(alloc);
-    put_texts(alloc, &apdu, &mut out)?;
+    if put_texts(alloc, &apdu, &mut out).is_err() {
+        return Err(Unread);
+    }
     Ok(out)
 }
 
@@ -132,7 +154,9 @@ fn both_spellings_print_one_record(rt: HostRuntime) -> Result<(), Fail> {
 // Appends the identifier octets of an element, which are those of an empty one.
 fn put_identifier(alloc: Global, node: &Node, out: &mut Vec<u8>) -> Result<(), AllocError> {
     let empty = Node::cons(node.tag, Vec::new(alloc));
-    empty.canonical(alloc, out)?;
+    if empty.canonical(alloc, out).is_err() {
+        return Err(AllocError);
+    }
     let _ = out.pop();
     Ok(())
 }
@@ -146,10 +170,13 @@ pub(crate) fn put_indefinite(
     match &node.body {
         Body::Prim(_) => node.canonical(alloc, out),
         Body::Cons(nodes) => {
-            put_identifier(alloc, node, out)?;
-            out.push(0x80)?;
+            if put_identifier(alloc, node, out).is_err() || out.push(0x80).is_err() {
+                return Err(AllocError);
+            }
             for node in nodes {
-                put_indefinite(alloc, node, out)?;
+                if put_indefinite(alloc, node, out).is_err() {
+                    return Err(AllocError);
+                }
             }
             out.extend_from_slice(&[0x00, 0x00])
         }
@@ -158,10 +185,16 @@ pub(crate) fn put_indefinite(
 
 // The same element in indefinite lengths.
 fn indefinite(alloc: Global, digits: &str) -> Result<Vec<u8>, Unread> {
-    let octets = octets(alloc, digits)?;
-    let node = message(alloc, octets.as_slice())?;
+    let Ok(octets) = octets(alloc, digits) else {
+        return Err(Unread);
+    };
+    let Ok(node) = message(alloc, octets.as_slice()) else {
+        return Err(Unread);
+    };
     let mut out = Vec::new(alloc);
-    put_indefinite(alloc, &node, &mut out)?;
+    if put_indefinite(alloc, &node, &mut out).is_err() {
+        return Err(Unread);
+    }
     Ok(out)
 }
 
@@ -176,22 +209,26 @@ bf814900 bf8149800000
 
 fn is_respelled(alloc: Global, row: &str) -> Result<bool, Unread> {
     let (definite, due) = pair(row);
-    let due = octets(alloc, due)?;
+    let Ok(due) = octets(alloc, due) else {
+        return Err(Unread);
+    };
     Ok(spells(indefinite(alloc, definite), due.as_slice()))
 }
 
 #[test]
 fn lengths_are_made_indefinite(rt: HostRuntime) -> Result<(), Fail> {
-    each_row(rt.alloc(), LENGTHS, &is_respelled)
+    each_row(rt.alloc(), LENGTHS, is_respelled)
 }
 
 fn is_read_indefinite(alloc: Global, row: &str) -> Result<bool, Unread> {
     let (digits, _) = pair(row);
-    let octets = indefinite(alloc, digits)?;
+    let Ok(octets) = indefinite(alloc, digits) else {
+        return Err(Unread);
+    };
     is_line(alloc, octets.as_slice(), row)
 }
 
 #[test]
 fn indefinite_lengths_say_the_same(rt: HostRuntime) -> Result<(), Fail> {
-    each_row(rt.alloc(), APDUS, &is_read_indefinite)
+    each_row(rt.alloc(), APDUS, is_read_indefinite)
 }

@@ -14,13 +14,18 @@ pub fn apdu_node(alloc: Global, apdu: &Apdu) -> Result<Node, BuildError> {
 
 /// The APDU of an element.
 pub fn apdu_of(alloc: Global, node: &Node) -> Result<Box<Apdu>, Unread> {
-    let apdu = read(zapdu::from_node(alloc, node))?;
-    Ok(box_value(alloc, apdu)?)
+    let Ok(apdu) = zapdu::from_node(alloc, node) else {
+        return Err(Unread);
+    };
+    read(box_value(alloc, apdu))
 }
 
 /// The APDU that digits spell.
 pub fn apdu(alloc: Global, digits: &str) -> Result<Box<Apdu>, Unread> {
-    apdu_of(alloc, &element(alloc, digits)?)
+    match element(alloc, digits) {
+        Ok(node) => apdu_of(alloc, &node),
+        Err(error) => Err(error),
+    }
 }
 
 /// The element of a record.

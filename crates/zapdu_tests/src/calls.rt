@@ -34,7 +34,7 @@ fn is_given(alloc: Global, row: &str) -> Result<bool, Unread> {
 
 #[test]
 fn each_apdu_is_read_from_an_element_given_away(rt: HostRuntime) -> Result<(), Fail> {
-    each_row(rt.alloc(), APDUS, &is_given)
+    each_row(rt.alloc(), APDUS, is_given)
 }
 
 fn refusal(alloc: Global, node: Node) -> Result<String, Unread> {
@@ -50,7 +50,7 @@ fn is_refused(alloc: Global, row: &str) -> Result<bool, Unread> {
 
 #[test]
 fn what_misfits_is_refused_with_its_element(rt: HostRuntime) -> Result<(), Fail> {
-    each_row(rt.alloc(), REFUSED, &is_refused)
+    each_row(rt.alloc(), REFUSED, is_refused)
 }
 
 // APDUs, and their lines, in which `%0a` is a line feed.
@@ -99,7 +99,7 @@ fn has_lines(alloc: Global, row: &str) -> Result<bool, Unread> {
 
 #[test]
 fn apdus_are_printed_as_lines(rt: HostRuntime) -> Result<(), Fail> {
-    each_row(rt.alloc(), LINES, &has_lines)
+    each_row(rt.alloc(), LINES, has_lines)
 }
 
 fn record_text(alloc: Global, node: &Node, hex: bool) -> Result<Vec<u8>, Unread> {
@@ -118,7 +118,7 @@ fn is_printed(alloc: Global, row: &str) -> Result<bool, Unread> {
 
 #[test]
 fn records_given_away_are_printed(rt: HostRuntime) -> Result<(), Fail> {
-    each_row(rt.alloc(), PRINTED, &is_printed)
+    each_row(rt.alloc(), PRINTED, is_printed)
 }
 
 // Diagnostics in the default format, and their texts behind a colon.
@@ -148,7 +148,7 @@ fn is_diag_text(alloc: Global, row: &str) -> Result<bool, Unread> {
 
 #[test]
 fn diagnostics_in_the_default_format_are_printed(rt: HostRuntime) -> Result<(), Fail> {
-    each_row(rt.alloc(), DIAGS, &is_diag_text)
+    each_row(rt.alloc(), DIAGS, is_diag_text)
 }
 
 // Octets, in which `%` and two digits stand for one, and their digits behind a colon.
@@ -172,5 +172,5 @@ fn is_hex(alloc: Global, row: &str) -> Result<bool, Unread> {
 
 #[test]
 fn octets_are_printed_in_hexadecimal(rt: HostRuntime) -> Result<(), Fail> {
-    each_row(rt.alloc(), HEX, &is_hex)
+    each_row(rt.alloc(), HEX, is_hex)
 }

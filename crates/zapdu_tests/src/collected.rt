@@ -35,8 +35,9 @@ fn put(rows: &str, place: Place, out: &mut String) -> Result<(), AllocError> {
     for row in rows.lines() {
         let word = word_at(row, place);
         if !row.starts_with('#') && !word.is_empty() {
-            out.push_str(word)?;
-            out.push_str("\n")?;
+            if out.push_str(word).is_err() || out.push_str("\n").is_err() {
+                return Err(AllocError);
+            }
         }
     }
     Ok(())
@@ -64,7 +65,9 @@ pub(crate) fn encodings(alloc: Global) -> Result<String, AllocError> {
         (records::MADE, Place::Marked),
         (misfits::REFUSED, Place::First),
     ] {
-        put(rows, place, &mut out)?;
+        if put(rows, place, &mut out).is_err() {
+            return Err(AllocError);
+        }
     }
     Ok(out)
 }

@@ -3,24 +3,24 @@ use crate::boxes::diag_node;
 use crate::collected::encodings;
 use crate::plain::{apdu_refusal, diag_of, is_diag, is_record};
 use crate::segments::{apdu_encoding, query_encoding, record_encoding};
-use std::alloc::Global;
+use std::alloc::{AllocError, Global};
 use std::process::Abort;
 use std::test::Fail;
 use zapdu::ApduError;
 use zber::{FaultKind, FrameError, Framer, Node};
-use zber_tests::rows::{
-    LIMIT, each_row, element, encoding, is_true, octets, pair, split_text, tells,
-};
-use zber_tests::scripts::answers;
+use zber_tests::rows::{LIMIT, each_row, element, encoding, octets, pair, split_text, tells};
+use zber_tests::scripts::answers_as;
 use zber_tests::unread::{Unread, read};
 use zquery_tests::plain::{inner, is_query};
 
 // Whether the first so many octets are told to be cut off there.
-fn is_truncated(alloc: Global, digits: &str, at: usize) -> Result<bool, Unread> {
+fn is_truncated(alloc: Global, digits: &str, at: usize) -> bool {
     let (first, _) = split_text(digits, at.saturating_mul(2));
-    let script = format!(in alloc; "{first} next finish")?;
-    let due = format!(in alloc; "nothing;Truncated at {at};")?;
-    Ok(tells(answers(alloc, LIMIT, script.as_str()), due.as_str()))
+    answers_as(
+        alloc,
+        format!(in alloc; "{first} next finish"),
+        format!(in alloc; "nothing;Truncated at {at};"),
+    )
 }
 
 fn is_waiting(framer: &mut Framer) -> bool {
@@ -28,21 +28,32 @@ fn is_waiting(framer: &mut Framer) -> bool {
 }
 
 // How many octets stand before the one with which a message or a fault comes, of octets that are fed one by one.
-fn octets_before_answer(alloc: Global, digits: &str) -> Result<usize, Unread> {
-    let octets = octets(alloc, digits)?;
-    let mut framer = Framer::new(alloc, LIMIT);
+fn octets_before(framer: &mut Framer, octets: &[u8]) -> Option<usize> {
     for (before, octet) in octets.iter().enumerate() {
-        framer.feed(&[*octet])?;
-        if !is_waiting(&mut framer) {
-            return Ok(before);
+        if framer.feed(&[*octet]).is_err() {
+            return None;
+        }
+        if !is_waiting(framer) {
+            return Some(before);
         }
     }
-    Err(Unread)
+    None
+}
+
+fn octets_before_answer(alloc: Global, digits: &str) -> Option<usize> {
+    let mut framer = Framer::new(alloc, LIMIT);
+    match octets(alloc, digits) {
+        Ok(octets) => octets_before(&mut framer, octets.as_slice()),
+        Err(_) => None,
+    }
 }
 
 fn is_truncated_anywhere(alloc: Global, digits: &str) -> Result<bool, Unread> {
-    for before in 0..octets_before_answer(alloc, digits)? {
-        if !is_true(is_truncated(alloc, digits, before.saturating_add(1))) {
+    let Some(count) = octets_before_answer(alloc, digits) else {
+        return Err(Unread);
+    };
+    for before in 0..count {
+        if !is_truncated(alloc, digits, before.saturating_add(1)) {
             return Ok(false);
         }
     }
@@ -52,60 +63,72 @@ fn is_truncated_anywhere(alloc: Global, digits: &str) -> Result<bool, Unread> {
 #[test]
 fn each_front_of_an_encoding_is_truncated(rt: HostRuntime) -> Result<(), Fail> {
     let rows = encodings(rt.alloc())?;
-    each_row(rt.alloc(), rows.as_str(), &is_truncated_anywhere)
+    each_row(rt.alloc(), rows.as_str(), is_truncated_anywhere)
 }
 
 fn own_encoding(alloc: Global, node: &Node) -> Result<String, Unread> {
-    Ok(encoding(alloc, node)?)
+    read(encoding(alloc, node))
 }
 
 fn diag_encoding(alloc: Global, node: &Node) -> Result<String, Unread> {
-    let diag = diag_of(alloc, node)?;
-    let node = read(diag_node(alloc, &diag))?;
-    Ok(encoding(alloc, &node)?)
+    let Ok(diag) = diag_of(alloc, node) else {
+        return Err(Unread);
+    };
+    let Ok(node) = diag_node(alloc, &diag) else {
+        return Err(Unread);
+    };
+    read(encoding(alloc, &node))
 }
 
 // Whether what an element says is read back from its encoding.
-fn is_read_back<F: Fn(Global, &Node) -> Result<String, Unread>>(
+fn is_read_back(
     alloc: Global,
     node: &Node,
-    says: &F,
-) -> Result<bool, Unread>
-    requires { F.IsAlwaysCallable says.now }
+    says: fn(Global, &Node) -> Result<String, Unread>,
+) -> bool
+    requires { IsAlwaysCallable says }
 {
-    let digits = says(alloc, node)?;
-    let again = element(alloc, digits.as_str())?;
-    Ok(tells(says(alloc, &again), digits.as_str()))
-}
-
-// Whether an element is an APDU that is read back, or is refused as one by name.
-fn is_apdu_or_none(alloc: Global, node: &Node) -> Result<bool, Unread> {
-    match apdu_refusal(alloc, node) {
-        None => is_read_back(alloc, node, &apdu_encoding),
-        Some(ApduError::Memory) => Err(Unread),
-        Some(_) => Ok(true),
+    let Ok(digits) = says(alloc, node) else {
+        return false;
+    };
+    match element(alloc, digits.as_str()) {
+        Ok(again) => tells(says(alloc, &again), digits.as_str()),
+        Err(_) => false,
     }
 }
 
-fn is_query_or_none(alloc: Global, node: &Node) -> Result<bool, Unread> {
-    Ok(!is_query(alloc, node)? || is_read_back(alloc, node, &query_encoding)?)
+// Whether an element is an APDU that is read back, or is refused as one by name.
+fn is_apdu_or_none(alloc: Global, node: &Node) -> bool {
+    match apdu_refusal(alloc, node) {
+        None => is_read_back(alloc, node, apdu_encoding),
+        Some(ApduError::Memory) => false,
+        Some(_) => true,
+    }
 }
 
-fn is_record_or_none(alloc: Global, node: &Node) -> Result<bool, Unread> {
-    Ok(!is_record(alloc, node)? || is_read_back(alloc, node, &record_encoding)?)
-}
-
-fn is_diag_or_none(alloc: Global, node: &Node) -> Result<bool, Unread> {
-    Ok(!is_diag(alloc, node)? || is_read_back(alloc, node, &diag_encoding)?)
+// Whether an element is something that is read back, or is not; neither where that could not be told.
+fn is_none_or(
+    alloc: Global,
+    node: &Node,
+    is: Result<bool, AllocError>,
+    says: fn(Global, &Node) -> Result<String, Unread>,
+) -> bool
+    requires { IsAlwaysCallable says }
+{
+    match is {
+        Ok(true) => is_read_back(alloc, node, says),
+        Ok(false) => true,
+        Err(_) => false,
+    }
 }
 
 // Whether an element is read back, and so is all that it can be taken for.
 fn is_told(alloc: Global, node: &Node) -> bool {
-    is_true(is_read_back(alloc, node, &own_encoding))
-        && is_true(is_apdu_or_none(alloc, node))
-        && is_true(is_query_or_none(alloc, node))
-        && is_true(is_record_or_none(alloc, node))
-        && is_true(is_diag_or_none(alloc, node))
+    is_read_back(alloc, node, own_encoding)
+        && is_apdu_or_none(alloc, node)
+        && is_none_or(alloc, node, is_query(alloc, node), query_encoding)
+        && is_none_or(alloc, node, is_record(alloc, node), record_encoding)
+        && is_none_or(alloc, node, is_diag(alloc, node), diag_encoding)
 }
 
 // The same of an element and of the first one within it, as a query stands in an element around it.
@@ -118,26 +141,26 @@ fn are_told(alloc: Global, node: &Node) -> bool {
 }
 
 fn is_cut_off(framer: &Framer, count: usize) -> bool {
-    framer.finish()
-        == Err(FrameError::Fault {
-            kind: FaultKind::Truncated,
-            at: count,
-        })
+    matches!(
+        framer.finish(),
+        Err(FrameError::Fault { kind: FaultKind::Truncated, at }) if at == count
+    )
+}
+
+fn is_next_answered(alloc: Global, framer: &mut Framer, count: usize) -> bool {
+    match framer.next() {
+        Ok(None) => is_cut_off(framer, count),
+        Ok(Some(node)) => are_told(alloc, &node),
+        Err(FrameError::Fault { kind, at }) => kind != FaultKind::Truncated && at <= count,
+        Err(FrameError::Memory) => false,
+    }
 }
 
 // Whether octets are cut off, or begin with a message that is told, or show a fault at one of them or
 // behind them, where a header is due that passes the end.
-fn is_answered(alloc: Global, octets: &[u8]) -> Result<bool, Unread> {
+fn is_answered(alloc: Global, octets: &[u8]) -> bool {
     let mut framer = Framer::new(alloc, LIMIT);
-    framer.feed(octets)?;
-    match framer.next() {
-        Ok(None) => Ok(is_cut_off(&framer, octets.len())),
-        Ok(Some(node)) => Ok(are_told(alloc, &node)),
-        Err(FrameError::Fault { kind, at }) => Ok(
-            kind != FaultKind::Truncated && at <= octets.len(),
-        ),
-        Err(FrameError::Memory) => Err(Unread),
-    }
+    framer.feed(octets).is_ok() && is_next_answered(alloc, &mut framer, octets.len())
 }
 
 fn flip(octets: &mut [u8], at: usize, mask: u8) {
@@ -147,21 +170,23 @@ fn flip(octets: &mut [u8], at: usize, mask: u8) {
 }
 
 // Of an octet the lowest bits, the bit that tells forms of elements apart, the highest bits, and all bits are changed.
-fn is_answered_changed(alloc: Global, octets: &mut [u8], at: usize) -> Result<bool, Unread> {
+fn is_answered_changed(alloc: Global, octets: &mut [u8], at: usize) -> bool {
     for mask in [0x01, 0x02, 0x20, 0x40, 0x80, 0xff_u8] {
         flip(octets, at, mask);
-        if !is_true(is_answered(alloc, octets)) {
-            return Ok(false);
+        if !is_answered(alloc, octets) {
+            return false;
         }
         flip(octets, at, mask);
     }
-    Ok(true)
+    true
 }
 
 fn is_answered_changed_anywhere(alloc: Global, digits: &str) -> Result<bool, Unread> {
-    let mut octets = octets(alloc, digits)?;
+    let Ok(mut octets) = octets(alloc, digits) else {
+        return Err(Unread);
+    };
     for at in 0..octets.len() {
-        if !is_true(is_answered_changed(alloc, octets.as_mut_slice(), at)) {
+        if !is_answered_changed(alloc, octets.as_mut_slice(), at) {
             return Ok(false);
         }
     }
@@ -171,12 +196,12 @@ fn is_answered_changed_anywhere(alloc: Global, digits: &str) -> Result<bool, Unr
 #[test]
 fn each_changed_octet_of_an_encoding_is_answered(rt: HostRuntime) -> Result<(), Fail> {
     let rows = encodings(rt.alloc())?;
-    each_row(rt.alloc(), rows.as_str(), &is_answered_changed_anywhere)
+    each_row(rt.alloc(), rows.as_str(), is_answered_changed_anywhere)
 }
 
 // How many strings of octets are the front of a message, are an APDU, are another message, and show a fault; and the
 // sum of the numbers at which they are refused.
-#[derive(Clone, Copy, Debug, PartialEq, Eq)]
+#[derive(Clone, Copy)]
 struct Tally {
     fronts: u64,
     apdus: u64,
@@ -200,12 +225,10 @@ impl Tally {
         Ok(())
     }
 
-    fn put(&mut self, alloc: Global, octets: &[u8]) -> Result<(), Unread> {
-        let mut framer = Framer::new(alloc, LIMIT);
-        framer.feed(octets)?;
+    fn put_next(&mut self, alloc: Global, framer: &mut Framer) -> Result<(), Unread> {
         match framer.next() {
             Ok(None) => self.fronts = self.fronts.saturating_add(1),
-            Ok(Some(node)) => self.put_message(alloc, &node)?,
+            Ok(Some(node)) => return self.put_message(alloc, &node),
             Err(FrameError::Fault { at, .. }) => {
                 self.faults = self.faults.saturating_add(1);
                 self.places = self.places.saturating_add(at as u64);
@@ -215,11 +238,21 @@ impl Tally {
         Ok(())
     }
 
+    fn put(&mut self, alloc: Global, octets: &[u8]) -> Result<(), Unread> {
+        let mut framer = Framer::new(alloc, LIMIT);
+        match framer.feed(octets) {
+            Ok(()) => self.put_next(alloc, &mut framer),
+            Err(_) => Err(Unread),
+        }
+    }
+
     // Each other value of one octet.
     fn put_others(&mut self, alloc: Global, octets: &mut [u8], at: usize) -> Result<(), Unread> {
         for mask in 1..=255_u8 {
             flip(octets, at, mask);
-            self.put(alloc, octets)?;
+            if self.put(alloc, octets).is_err() {
+                return Err(Unread);
+            }
             flip(octets, at, mask);
         }
         Ok(())
@@ -239,7 +272,9 @@ bf30208201079f8153010283017884072a8648ce130301a506280481026869bf814900 346 2938 
 ";
 
 fn tally_changes(alloc: Global, digits: &str) -> Result<Tally, Unread> {
-    let mut octets = octets(alloc, digits)?;
+    let Ok(mut octets) = octets(alloc, digits) else {
+        return Err(Unread);
+    };
     let mut tally = Tally {
         fronts: 0,
         apdus: 0,
@@ -249,22 +284,26 @@ fn tally_changes(alloc: Global, digits: &str) -> Result<Tally, Unread> {
         places: 0,
     };
     for at in 0..octets.len() {
-        tally.put_others(alloc, octets.as_mut_slice(), at)?;
+        if tally.put_others(alloc, octets.as_mut_slice(), at).is_err() {
+            return Err(Unread);
+        }
     }
     Ok(tally)
 }
 
 fn has_tally(alloc: Global, row: &str) -> Result<bool, Unread> {
     let (digits, due) = pair(row);
-    let of = tally_changes(alloc, digits)?;
+    let Ok(of) = tally_changes(alloc, digits) else {
+        return Err(Unread);
+    };
     let told = format!(in alloc;
         "{} {} {} {} {} {}",
         of.fronts, of.apdus, of.others, of.malformed, of.faults, of.places
-    )?;
-    Ok(told.as_str() == due)
+    );
+    Ok(tells(told, due))
 }
 
 #[test]
 fn each_changed_octet_is_told(rt: HostRuntime) -> Result<(), Fail> {
-    each_row(rt.alloc(), CHANGED, &has_tally)
+    each_row(rt.alloc(), CHANGED, has_tally)
 }

@@ -15,7 +15,7 @@ use zapdu::{
 use zber::{Bits, Node, Oid};
 use zber_tests::rows::digits;
 use zber_tests::shown::bit_digits;
-use zber_tests::unread::{Unread, read};
+use zber_tests::unread::Unread;
 use zquery::Query;
 use zquery_tests::plain::{query_copy, query_text};
 
@@ -63,7 +63,9 @@ pub(crate) fn put_some_node(alloc: Global, node: &Option<Node>, out: &mut Line) 
 }
 
 fn oid_text(alloc: Global, oid: &Oid) -> Result<String, AllocError> {
-    let copy = oid.copy(alloc)?;
+    let Ok(copy) = oid.copy(alloc) else {
+        return Err(AllocError);
+    };
     copy.text(alloc)
 }
 
@@ -123,7 +125,9 @@ fn put_default_diag(alloc: Global, diag: &DefaultDiag, out: &mut Line) {
 
 // The diagnostic that a diagnostic's element stands for.
 fn again_diag(alloc: Global, diag: &DiagRec) -> Result<Box<DiagRec>, Unread> {
-    let node = read(diag_node(alloc, diag))?;
+    let Ok(node) = diag_node(alloc, diag) else {
+        return Err(Unread);
+    };
     diag_of(alloc, &node)
 }
 
@@ -158,7 +162,9 @@ fn put_body(alloc: Global, body: &RecordBody, out: &mut Line) {
 
 // The record that a record's element stands for.
 fn again_record(alloc: Global, record: &Record) -> Result<Box<Record>, Unread> {
-    let node = read(record_node(alloc, record))?;
+    let Ok(node) = record_node(alloc, record) else {
+        return Err(Unread);
+    };
     record_of(alloc, &node)
 }
 
@@ -266,7 +272,9 @@ pub(crate) fn put_ranges(alloc: Global, ranges: &[Range], out: &mut Line) {
 }
 
 fn copy_text(alloc: Global, query: &Query) -> Result<Vec<u8>, Unread> {
-    let copy = query_copy(alloc, query)?;
+    let Ok(copy) = query_copy(alloc, query) else {
+        return Err(Unread);
+    };
     query_text(alloc, &copy)
 }
 

@@ -28,3 +28,5 @@ mod records;
 mod segments;
 #[cfg(test)]
 mod servers;
+#[cfg(test)]
+mod streamed;

@@ -4,7 +4,7 @@ use std::alloc::Global;
 use std::process::Abort;
 use std::test::Fail;
 use zber_tests::rows::{each_row, element, pair, tells};
-use zber_tests::unread::Unread;
+use zber_tests::unread::{Unread, read};
 
 // Elements and their refusals; a line with `#` says what is wrong with those below it.
 pub(crate) const REFUSED: &str = "\
@@ -78,9 +78,13 @@ bf300d9f81530100a30624040c026f6b Close malformed at 1
 ";
 
 fn refusal(alloc: Global, digits: &str) -> Result<String, Unread> {
-    let node = element(alloc, digits)?;
-    let error = apdu_refusal(alloc, &node).ok_or(Unread)?;
-    Ok(error.to_string(alloc)?)
+    let Ok(node) = element(alloc, digits) else {
+        return Err(Unread);
+    };
+    let Some(error) = apdu_refusal(alloc, &node) else {
+        return Err(Unread);
+    };
+    read(error.to_string(alloc))
 }
 
 fn is_refused(alloc: Global, row: &str) -> Result<bool, Unread> {
@@ -90,5 +94,5 @@ fn is_refused(alloc: Global, row: &str) -> Result<bool, Unread> {
 
 #[test]
 fn what_misfits_is_refused_at_its_place(rt: HostRuntime) -> Result<(), Fail> {
-    each_row(rt.alloc(), REFUSED, &is_refused)
+    each_row(rt.alloc(), REFUSED, is_refused)
 }

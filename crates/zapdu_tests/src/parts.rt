@@ -119,7 +119,9 @@ pub fn put_number(alloc: Global, number: i64, out: &mut Line) {
 }
 
 fn encode_copy(alloc: Global, node: &Node) -> Result<String, AllocError> {
-    let copy = node.copy(alloc)?;
+    let Ok(copy) = node.copy(alloc) else {
+        return Err(AllocError);
+    };
     encoding(alloc, &copy)
 }
 

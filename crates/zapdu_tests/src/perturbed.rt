@@ -55,26 +55,33 @@ fn kind(apdu: &Apdu) -> Kind {
     }
 }
 
-fn has_kind(alloc: Global, node: &Node, due: &str) -> Result<bool, Unread> {
-    let apdu = apdu_of(alloc, node)?;
-    Ok(name(kind(&apdu)) == due)
+fn has_kind(alloc: Global, node: &Node, due: &str) -> bool {
+    let Ok(apdu) = apdu_of(alloc, node) else {
+        return false;
+    };
+    name(kind(&apdu)) == due
 }
 
 // The mark of an element that is to be of this kind, or to be refused as one.
-fn mark(alloc: Global, node: &Node, due: &str) -> Result<Option<char>, Unread> {
+fn mark(alloc: Global, node: &Node, due: &str) -> Option<char> {
     match apdu_refusal(alloc, node) {
-        None if has_kind(alloc, node, due)? => Ok(Some('.')),
-        Some(ApduError::Malformed { kind, at }) if name(kind) == due && at < 36 => Ok(
-            char::from_digit(at as u32, 36),
-        ),
-        _ => Ok(None),
+        None if has_kind(alloc, node, due) => Some('.'),
+        Some(ApduError::Malformed { kind, at }) if name(kind) == due && at < 36 => {
+            char::from_digit(at as u32, 36)
+        }
+        _ => None,
     }
 }
 
 fn copies(alloc: Global, nodes: &[Node]) -> Result<Vec<Node>, AllocError> {
     let mut copies = Vec::new(alloc);
     for node in nodes {
-        copies.push(node.copy(alloc)?)?;
+        let Ok(copy) = node.copy(alloc) else {
+            return Err(AllocError);
+        };
+        if copies.push(copy).is_err() {
+            return Err(AllocError);
+        }
     }
     Ok(copies)
 }
@@ -91,8 +98,12 @@ fn empty(alloc: Global, node: &Node, same_form: bool) -> Body {
 // Doubles the element at a place.
 fn double(alloc: Global, nodes: &mut Vec<Node>, at: usize) -> Result<(), AllocError> {
     if at < nodes.len() {
-        let node = nodes[at].copy(alloc)?;
-        nodes.insert(at, node)?;
+        let Ok(node) = nodes[at].copy(alloc) else {
+            return Err(AllocError);
+        };
+        if nodes.insert(at, node).is_err() {
+            return Err(AllocError);
+        }
     }
     Ok(())
 }
@@ -121,7 +132,7 @@ fn change(
             0 => {
                 let _ = nodes.remove(at);
             }
-            1 => double(alloc, nodes, at)?,
+            1 => return double(alloc, nodes, at),
             2 => {
                 if at < nodes.len() - 1 {
                     nodes.swap(at, at + 1);
@@ -144,11 +155,16 @@ fn mark_of_change(
     number: usize,
     kind: &str,
 ) -> Result<char, Unread> {
-    let mut nodes = copies(alloc, nodes)?;
-    change(alloc, &mut nodes, at, number)?;
-    let node = Node::cons(tag, nodes);
-    let mark = mark(alloc, &node, kind)?.ok_or(Unread)?;
-    Ok(mark)
+    let Ok(mut nodes) = copies(alloc, nodes) else {
+        return Err(Unread);
+    };
+    if change(alloc, &mut nodes, at, number).is_err() {
+        return Err(Unread);
+    }
+    match mark(alloc, &Node::cons(tag, nodes), kind) {
+        Some(mark) => Ok(mark),
+        None => Err(Unread),
+    }
 }
 
 fn marks(
@@ -160,7 +176,12 @@ fn marks(
 ) -> Result<String, Unread> {
     let mut out = String::new(alloc);
     for at in 0..nodes.len() {
-        out.push(mark_of_change(alloc, tag, nodes, at, number, kind)?)?;
+        let Ok(mark) = mark_of_change(alloc, tag, nodes, at, number, kind) else {
+            return Err(Unread);
+        };
+        if out.push(mark).is_err() {
+            return Err(Unread);
+        }
     }
     Ok(out)
 }
@@ -181,11 +202,13 @@ fn are_marks(alloc: Global, node: &Node, kind: &str, due: &str) -> Result<bool, 
 fn is_row(alloc: Global, row: &str) -> Result<bool, Unread> {
     let (kind, rest) = pair(row);
     let (digits, due) = pair(rest);
-    let node = element(alloc, digits)?;
+    let Ok(node) = element(alloc, digits) else {
+        return Err(Unread);
+    };
     are_marks(alloc, &node, kind, due)
 }
 
 #[test]
 fn each_change_is_found_at_its_place(rt: HostRuntime) -> Result<(), Fail> {
-    each_row(rt.alloc(), ROWS, &is_row)
+    each_row(rt.alloc(), ROWS, is_row)
 }

@@ -3,25 +3,31 @@ use crate::boxes::box_value;
 use std::alloc::{AllocError, Global};
 use zapdu::{Apdu, ApduError, DiagRec, Record};
 use zber::Node;
-use zber_tests::unread::Unread;
+use zber_tests::unread::{Unread, read};
 
 pub(crate) fn apdu_refusal(alloc: Global, node: &Node) -> Option<ApduError> {
     zapdu::from_node(alloc, node).err()
 }
 
 pub(crate) fn apdu_copy(alloc: Global, apdu: &Apdu) -> Result<Box<Apdu>, AllocError> {
-    let copy = apdu.copy(alloc)?;
-    box_value(alloc, copy)
+    match apdu.copy(alloc) {
+        Ok(copy) => box_value(alloc, copy),
+        Err(error) => Err(error),
+    }
 }
 
 pub(crate) fn record_of(alloc: Global, node: &Node) -> Result<Box<Record>, Unread> {
-    let record = zapdu::record_of(alloc, node)?.ok_or(Unread)?;
-    Ok(box_value(alloc, record)?)
+    match zapdu::record_of(alloc, node) {
+        Ok(Some(record)) => read(box_value(alloc, record)),
+        _ => Err(Unread),
+    }
 }
 
 pub(crate) fn is_record(alloc: Global, node: &Node) -> Result<bool, AllocError> {
-    let absent = zapdu::record_of(alloc, node)?.ok_or(()).err();
-    Ok(absent.is_none())
+    match zapdu::record_of(alloc, node) {
+        Ok(record) => Ok(record.ok_or(()).err().is_none()),
+        Err(error) => Err(error),
+    }
 }
 
 pub(crate) fn record_text(
@@ -30,26 +36,36 @@ pub(crate) fn record_text(
     hex: bool,
 ) -> Result<Vec<u8>, AllocError> {
     let mut out = Vec::new(alloc);
-    zapdu::print_record(alloc, record, hex, &mut out)?;
+    if zapdu::print_record(alloc, record, hex, &mut out).is_err() {
+        return Err(AllocError);
+    }
     Ok(out)
 }
 
 pub(crate) fn record_copy(alloc: Global, record: &Record) -> Result<Box<Record>, AllocError> {
-    let copy = record.copy(alloc)?;
-    box_value(alloc, copy)
+    match record.copy(alloc) {
+        Ok(copy) => box_value(alloc, copy),
+        Err(error) => Err(error),
+    }
 }
 
 pub(crate) fn diag_of(alloc: Global, node: &Node) -> Result<Box<DiagRec>, Unread> {
-    let diag = zapdu::diag_of(alloc, node)?.ok_or(Unread)?;
-    Ok(box_value(alloc, diag)?)
+    match zapdu::diag_of(alloc, node) {
+        Ok(Some(diag)) => read(box_value(alloc, diag)),
+        _ => Err(Unread),
+    }
 }
 
 pub(crate) fn is_diag(alloc: Global, node: &Node) -> Result<bool, AllocError> {
-    let absent = zapdu::diag_of(alloc, node)?.ok_or(()).err();
-    Ok(absent.is_none())
+    match zapdu::diag_of(alloc, node) {
+        Ok(diag) => Ok(diag.ok_or(()).err().is_none()),
+        Err(error) => Err(error),
+    }
 }
 
 pub(crate) fn diag_copy(alloc: Global, diag: &DiagRec) -> Result<Box<DiagRec>, AllocError> {
-    let copy = diag.copy(alloc)?;
-    box_value(alloc, copy)
+    match diag.copy(alloc) {
+        Ok(copy) => box_value(alloc, copy),
+        Err(error) => Err(error),
+    }
 }

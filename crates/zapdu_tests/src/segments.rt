@@ -1,16 +1,13 @@
-// Strings in constructed form (X.690, 8.7.3 and 8.23): by themselves, at each place of APDUs and queries, and of many
-// segments.
-ghost use Rattle.std.specs.Prelude.{◌<◌};
-
-use crate::apdus::{APDUS, put_indefinite};
+// Strings in constructed form (X.690, 8.7.3 and 8.23): by themselves, and at each place of APDUs and queries.
+use crate::apdus::APDUS;
 use crate::boxes::{apdu_node, apdu_of, record_node};
 use crate::plain::record_of;
 use bytes::Bytes;
 use std::alloc::{AllocError, Global};
 use std::process::Abort;
 use std::test::Fail;
-use zber::{Body, Node, Oid, Tag, ValueError};
-use zber_tests::rows::{each_row, element, encoding, is_true, message, pair, tells};
+use zber::{Body, Node, Tag};
+use zber_tests::rows::{each_row, element, encoding, pair, tells};
 use zber_tests::shown::string;
 use zber_tests::unread::{Unread, read};
 use zquery_tests::plain::{query_node, query_of};
@@ -53,19 +50,25 @@ a10a240304016824031a0169 WrongForm
 
 fn is_string(alloc: Global, row: &str) -> Result<bool, Unread> {
     let (digits, due) = pair(row);
-    let node = element(alloc, digits)?;
+    let Ok(node) = element(alloc, digits) else {
+        return Err(Unread);
+    };
     Ok(tells(string(alloc, &node), due))
 }
 
 #[test]
 fn strings_are_the_octets_of_their_segments(rt: HostRuntime) -> Result<(), Fail> {
-    each_row(rt.alloc(), STRINGS, &is_string)
+    each_row(rt.alloc(), STRINGS, is_string)
 }
 
 pub(crate) fn apdu_encoding(alloc: Global, node: &Node) -> Result<String, Unread> {
-    let apdu = apdu_of(alloc, node)?;
-    let node = read(apdu_node(alloc, &apdu))?;
-    Ok(encoding(alloc, &node)?)
+    let Ok(apdu) = apdu_of(alloc, node) else {
+        return Err(Unread);
+    };
+    let Ok(node) = apdu_node(alloc, &apdu) else {
+        return Err(Unread);
+    };
+    read(encoding(alloc, &node))
 }
 
 // APDUs with strings in constructed form, and the canonical encodings of what they say.
@@ -77,13 +80,15 @@ bf30079f81530100a300 bf30079f815301008300
 
 fn is_spelled(alloc: Global, row: &str) -> Result<bool, Unread> {
     let (digits, due) = pair(row);
-    let node = element(alloc, digits)?;
+    let Ok(node) = element(alloc, digits) else {
+        return Err(Unread);
+    };
     Ok(tells(apdu_encoding(alloc, &node), due))
 }
 
 #[test]
 fn either_form_says_the_same(rt: HostRuntime) -> Result<(), Fail> {
-    each_row(rt.alloc(), SPELLED, &is_spelled)
+    each_row(rt.alloc(), SPELLED, is_spelled)
 }
 
 // What a string is made into: one segment, three, three within one, none; and, for what none says, primitive with no
@@ -97,35 +102,52 @@ enum Form {
     Empty,
 }
 
-fn segment(octets: Bytes) -> Node {
+pub(crate) fn segment(octets: Bytes) -> Node {
     Node::prim(Tag::universal(4), octets)
 }
 
 // The first third, nothing, and the rest.
 fn three(alloc: Global, octets: &Bytes) -> Result<Vec<Node>, AllocError> {
     let third = octets.len() / 3;
-    let mut nodes = Vec::new(alloc);
-    nodes.push(segment(octets.slice(0..third)?))?;
-    nodes.push(segment(Bytes::new()))?;
-    nodes.push(segment(octets.slice(third..octets.len())?))?;
-    Ok(nodes)
+    let (Ok(first), Ok(rest)) = (octets.slice(0..third), octets.slice(third..octets.len())) else {
+        return Err(AllocError);
+    };
+    match vec![in alloc; segment(first), segment(Bytes::new()), segment(rest)] {
+        Ok(nodes) => Ok(nodes),
+        Err(_) => Err(AllocError),
+    }
 }
 
-fn one(alloc: Global, node: Node) -> Result<Vec<Node>, AllocError> {
-    let mut nodes = Vec::new(alloc);
-    nodes.push(node)?;
-    Ok(nodes)
+pub(crate) fn one(alloc: Global, node: Node) -> Result<Vec<Node>, AllocError> {
+    match vec![in alloc; node] {
+        Ok(nodes) => Ok(nodes),
+        Err(_) => Err(AllocError),
+    }
+}
+
+fn segments(alloc: Global, octets: &Bytes, form: Form) -> Result<Vec<Node>, AllocError> {
+    match form {
+        Form::One => match octets.clone() {
+            Ok(octets) => one(alloc, segment(octets)),
+            Err(_) => Err(AllocError),
+        },
+        Form::Three => three(alloc, octets),
+        Form::Nested => match three(alloc, octets) {
+            Ok(nodes) => one(alloc, Node::cons(Tag::universal(4), nodes)),
+            Err(error) => Err(error),
+        },
+        Form::Bare | Form::Empty => Ok(Vec::new(alloc)),
+    }
 }
 
 fn form_string(alloc: Global, tag: Tag, octets: &Bytes, form: Form) -> Result<Node, AllocError> {
-    let nodes = match form {
-        Form::One => one(alloc, segment(octets.clone()?))?,
-        Form::Three => three(alloc, octets)?,
-        Form::Nested => one(alloc, Node::cons(Tag::universal(4), three(alloc, octets)?))?,
-        Form::Bare => Vec::new(alloc),
-        Form::Empty => return Ok(Node::prim(tag, Bytes::new())),
-    };
-    Ok(Node::cons(tag, nodes))
+    if form == Form::Empty {
+        return Ok(Node::prim(tag, Bytes::new()));
+    }
+    match segments(alloc, octets, form) {
+        Ok(nodes) => Ok(Node::cons(tag, nodes)),
+        Err(error) => Err(error),
+    }
 }
 
 // A copy with the string at a place in another form; the element itself has place 0, and each the next one as it
@@ -149,7 +171,12 @@ fn change_string(
         Body::Cons(nodes) => {
             let mut copies = Vec::new(alloc);
             for node in nodes {
-                copies.push(change_string(alloc, node, place, form)?)?;
+                let Ok(copy) = change_string(alloc, node, place, form) else {
+                    return Err(AllocError);
+                };
+                if copies.push(copy).is_err() {
+                    return Err(AllocError);
+                }
             }
             Ok(Node::cons(node.tag, copies))
         }
@@ -157,58 +184,92 @@ fn change_string(
 }
 
 // The encoding of what an element says with the string at a place in another form.
-fn encode_changed<F: Fn(Global, &Node) -> Result<String, Unread>>(
+fn encode_changed(
     alloc: Global,
     node: &Node,
     place: usize,
     form: Form,
-    says: &F,
+    says: fn(Global, &Node) -> Result<String, Unread>,
 ) -> Result<String, Unread>
-    requires { F.IsAlwaysCallable says.now }
+    requires { IsAlwaysCallable says }
 {
     let mut place = place;
-    let node = change_string(alloc, node, &mut place, form)?;
-    says(alloc, &node)
+    match change_string(alloc, node, &mut place, form) {
+        Ok(node) => says(alloc, &node),
+        Err(_) => Err(Unread),
+    }
 }
 
-// Whether each form of the string at a place says what the primitive one does.
-fn is_one_value<F: Fn(Global, &Node) -> Result<String, Unread>>(
+// Whether each form of the string at a place that has octets says what the primitive one does.
+fn is_one_value(
     alloc: Global,
     node: &Node,
     place: usize,
-    says: &F,
-) -> Result<bool, Unread>
-    requires { F.IsAlwaysCallable says.now }
+    says: fn(Global, &Node) -> Result<String, Unread>,
+) -> bool
+    requires { IsAlwaysCallable says }
 {
-    let due = encoding(alloc, node)?;
+    let Ok(due) = encoding(alloc, node) else {
+        return false;
+    };
     for form in [Form::One, Form::Three, Form::Nested] {
         if !tells(encode_changed(alloc, node, place, form, says), due.as_str()) {
-            return Ok(false);
+            return false;
         }
     }
-    let none = encode_changed(alloc, node, place, Form::Bare, says)?;
-    let empty = encode_changed(alloc, node, place, Form::Empty, says);
-    Ok(tells(empty, none.as_str()))
+    true
+}
+
+// Whether both forms of no octets at a place say the same.
+fn is_one_emptied(
+    alloc: Global,
+    node: &Node,
+    place: usize,
+    says: fn(Global, &Node) -> Result<String, Unread>,
+) -> bool
+    requires { IsAlwaysCallable says }
+{
+    match encode_changed(alloc, node, place, Form::Bare, says) {
+        Ok(none) => tells(
+            encode_changed(alloc, node, place, Form::Empty, says),
+            none.as_str(),
+        ),
+        Err(_) => false,
+    }
+}
+
+fn are_one_value_in(
+    alloc: Global,
+    node: &Node,
+    places: &str,
+    says: fn(Global, &Node) -> Result<String, Unread>,
+) -> bool
+    requires { IsAlwaysCallable says }
+{
+    for place in places.split(' ') {
+        let Ok(place) = place.parse::<usize>() else {
+            return false;
+        };
+        if !is_one_value(alloc, node, place, says) || !is_one_emptied(alloc, node, place, says) {
+            return false;
+        }
+    }
+    true
 }
 
 // The same of all places in a text; `-` stands for none.
-fn are_one_value<F: Fn(Global, &Node) -> Result<String, Unread>>(
+fn are_one_value(
     alloc: Global,
     digits: &str,
     places: &str,
-    says: &F,
-) -> Result<bool, Unread>
-    requires { F.IsAlwaysCallable says.now }
+    says: fn(Global, &Node) -> Result<String, Unread>,
+) -> bool
+    requires { IsAlwaysCallable says }
 {
-    let node = element(alloc, digits)?;
-    if places != "-" {
-        for place in places.split(' ') {
-            if !is_true(is_one_value(alloc, &node, place.parse::<usize>()?, says)) {
-                return Ok(false);
-            }
-        }
+    match element(alloc, digits) {
+        Ok(node) => places == "-" || are_one_value_in(alloc, &node, places, says),
+        Err(_) => false,
     }
-    Ok(true)
 }
 
 // The places of the strings in the table of APDUs, line by line.
@@ -249,7 +310,7 @@ fn each_string_of_an_apdu_has_either_form(rt: HostRuntime) -> Result<(), Fail> {
     for (row, places) in APDUS.lines().zip(PLACES.lines()) {
         let (digits, _) = pair(row);
         assert!(rt;
-            is_true(are_one_value(rt.alloc(), digits, places, &apdu_encoding)),
+            are_one_value(rt.alloc(), digits, places, apdu_encoding),
             "{row}"
         );
     }
@@ -257,9 +318,13 @@ fn each_string_of_an_apdu_has_either_form(rt: HostRuntime) -> Result<(), Fail> {
 }
 
 pub(crate) fn query_encoding(alloc: Global, node: &Node) -> Result<String, Unread> {
-    let query = query_of(alloc, node)?;
-    let node = read(query_node(alloc, &query))?;
-    Ok(encoding(alloc, &node)?)
+    let Ok(query) = query_of(alloc, node) else {
+        return Err(Unread);
+    };
+    let Ok(node) = query_node(alloc, &query) else {
+        return Err(Unread);
+    };
+    read(encoding(alloc, &node))
 }
 
 // Queries and the places of their strings: a general term, a string, a result set, one with attributes, several terms.
@@ -273,117 +338,20 @@ a13b06072a8648ce130301a130a00abf6607bf2c009f2d0161a11da00abf6607bf2c009f2d0162a0
 
 fn is_query(alloc: Global, row: &str) -> Result<bool, Unread> {
     let (digits, places) = pair(row);
-    are_one_value(alloc, digits, places, &query_encoding)
+    Ok(are_one_value(alloc, digits, places, query_encoding))
 }
 
 #[test]
 fn each_string_of_a_query_has_either_form(rt: HostRuntime) -> Result<(), Fail> {
-    each_row(rt.alloc(), QUERIES, &is_query)
-}
-
-// So many octets.
-fn make_octets(alloc: Global, count: u32) -> Result<Bytes, Unread> {
-    let mut octets = Vec::new(alloc);
-    for number in 0..count {
-        octets.push((number % 251) as u8)?;
-    }
-    Ok(Bytes::from_vec(octets)?)
-}
-
-// The octets in segments of so many.
-fn parts(alloc: Global, octets: &[u8], size: usize) -> Result<Vec<Node>, Unread>
-    requires { 0 < size }
-{
-    let mut nodes = Vec::new(alloc);
-    for part in octets.chunks(size) {
-        nodes.push(segment(Bytes::copy_from_slice(alloc, part)?))?;
-    }
-    Ok(nodes)
-}
-
-// A record in the syntax 1.2.840.10003.5.10 with this content.
-fn record(alloc: Global, content: Node) -> Result<Node, Unread> {
-    let oid = Oid::from_arcs(alloc, &[1, 2, 840, 10003, 5, 10])?;
-    let mut nodes = Vec::new(alloc);
-    nodes.push(Node::of_oid(alloc, Tag::universal(6), &oid)?)?;
-    nodes.push(content)?;
-    let external = Node::cons(Tag::universal(8), nodes);
-    let inner = Node::cons(Tag::context(1), one(alloc, external)?);
-    let outer = Node::cons(Tag::context(1), one(alloc, inner)?);
-    Ok(Node::cons(Tag::universal(16), one(alloc, outer)?))
-}
-
-// The same element in indefinite lengths, as it is read.
-fn stream_element(alloc: Global, node: &Node) -> Result<Node, Unread> {
-    let mut out = Vec::new(alloc);
-    put_indefinite(alloc, node, &mut out)?;
-    message(alloc, out.as_slice())
+    each_row(rt.alloc(), QUERIES, is_query)
 }
 
 pub(crate) fn record_encoding(alloc: Global, node: &Node) -> Result<String, Unread> {
-    let record = record_of(alloc, node)?;
-    let node = read(record_node(alloc, &record))?;
-    Ok(encoding(alloc, &node)?)
-}
-
-// What a record of octets that is streamed in segments of so many is read as.
-fn cut_encoding(alloc: Global, octets: &[u8], size: usize) -> Result<String, Unread>
-    requires { 0 < size }
-{
-    let nodes = parts(alloc, octets, size)?;
-    let cut = record(alloc, Node::cons(Tag::context(1), nodes))?;
-    record_encoding(alloc, &stream_element(alloc, &cut)?)
-}
-
-fn whole_encoding(alloc: Global, octets: Bytes) -> Result<String, Unread> {
-    let whole = record(alloc, Node::prim(Tag::context(1), octets))?;
-    Ok(encoding(alloc, &whole)?)
-}
-
-// Whether a record of so many octets that is streamed in segments of so many is read.
-fn is_streamed(alloc: Global, count: u32, size: usize) -> Result<bool, Unread>
-    requires { 0 < size }
-{
-    let octets = make_octets(alloc, count)?;
-    let found = cut_encoding(alloc, octets.as_slice(), size)?;
-    Ok(tells(whole_encoding(alloc, octets), found.as_str()))
-}
-
-#[test]
-fn a_record_of_100000_octets_is_read_in_segments_of_1000(rt: HostRuntime) -> Result<(), Fail> {
-    assert!(rt; is_true(is_streamed(rt.alloc(), 100_000, 1000)));
-    Ok(())
-}
-
-// The elements within so many that are segments within one another.
-fn nest_segments(alloc: Global, nodes: Vec<Node>, levels: u32) -> Result<Node, AllocError> {
-    let mut node = Node::cons(Tag::universal(4), nodes);
-    for _ in 1..levels {
-        node = Node::cons(Tag::universal(4), one(alloc, node)?);
-    }
-    Ok(node)
-}
-
-fn is_same(found: Result<Bytes, ValueError>, due: &Bytes) -> bool {
-    match found {
-        Ok(found) => found.as_slice() == due.as_slice(),
-        Err(_) => false,
-    }
-}
-
-// Whether octets in segments of so many, so many levels deep, are joined.
-fn is_joined(alloc: Global, octets: &Bytes, size: usize, levels: u32) -> Result<bool, Unread>
-    requires { 0 < size }
-{
-    let nodes = parts(alloc, octets.as_slice(), size)?;
-    let node = nest_segments(alloc, nodes, levels)?;
-    Ok(is_same(node.as_octets(alloc), octets))
-}
-
-#[test]
-fn segments_of_one_octet_are_joined_60_deep(rt: HostRuntime) -> Result<(), Fail> {
-    let octets = make_octets(rt.alloc(), 200_000)?;
-    assert!(rt; is_true(is_joined(rt.alloc(), &octets, 1, 1)));
-    assert!(rt; is_true(is_joined(rt.alloc(), &octets, 1, 60)));
-    Ok(())
+    let Ok(record) = record_of(alloc, node) else {
+        return Err(Unread);
+    };
+    let Ok(node) = record_node(alloc, &record) else {
+        return Err(Unread);
+    };
+    read(encoding(alloc, &node))
 }

@@ -32,7 +32,8 @@ MeaningResult meaning (Err Misfit) = meaning ≡ None
 MeaningResult meaning (Err Memory) = Unit {0}
 
 -- a step over the elements returned and left what reading gives, unless no memory was found
-abbrev pub StepResult : {A : Type 0} → Result (A × List Element) (List Element) → Result A PartError → List Element → Type 0
+abbrev pub StepResult : {A : Type 0} → Result (A × List Element) (List Element) → Result A PartError → List Element
+    → Type 0
 StepResult reading (Ok x) left = reading ≡ Ok (x, left)
 StepResult reading (Err Misfit) left = reading ≡ Err left
 StepResult reading (Err Memory) left = Unit {0}

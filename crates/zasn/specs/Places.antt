@@ -51,35 +51,38 @@ lawful_place {P = P} {tags = tags} {meaning = meaning} {spelling = spelling} pla
 -- OCTET STRING and the character strings, with their octets unchanged; OBJECT IDENTIFIER; BIT STRING
 abbrev pub octets : AsnTag → Place (List ℕ)
 octets tag =
-    lawful_place {P = tagged tag octets_meaning} {tags = tag ∷ []} {meaning = octets_meaning} {spelling = octets_spelling tag}
-    (octets_place tag) (octets_spelled tag)
+    lawful_place {P = tagged tag octets_meaning} {tags = tag ∷ []} {meaning = octets_meaning}
+    {spelling = octets_spelling tag} (octets_place tag) (octets_spelled tag)
 
+-- OBJECT IDENTIFIER, as its arcs, each below 2 ^ 32 (X.690, 8.19)
 abbrev pub oid : AsnTag → Place (List ℕ)
 oid tag =
-    lawful_place {P = tagged tag oid_meaning} {tags = tag ∷ []} {meaning = oid_meaning} {spelling = oid_spelling tag} (oid_place tag)
-    (oid_spelled tag)
+    lawful_place {P = tagged tag oid_meaning} {tags = tag ∷ []} {meaning = oid_meaning}
+    {spelling = oid_spelling tag} (oid_place tag) (oid_spelled tag)
 
+-- BIT STRING in primitive form, as its bits in order (X.690, 8.6)
 abbrev pub bits : AsnTag → Place (List Bool)
 bits tag =
-    lawful_place {P = tagged tag bits_meaning} {tags = tag ∷ []} {meaning = bits_meaning} {spelling = bits_spelling tag} (bits_place tag)
-    (bits_spelled tag)
+    lawful_place {P = tagged tag bits_meaning} {tags = tag ∷ []} {meaning = bits_meaning}
+    {spelling = bits_spelling tag} (bits_place tag) (bits_spelled tag)
 
 -- INTEGER, BOOLEAN
 abbrev pub integer : AsnTag → Place ℤ
 integer tag =
-    lawful_place {P = tagged tag int_meaning} {tags = tag ∷ []} {meaning = int_meaning} {spelling = int_spelling tag} (int_place tag)
-    (int_spelled tag)
+    lawful_place {P = tagged tag int_meaning} {tags = tag ∷ []} {meaning = int_meaning}
+    {spelling = int_spelling tag} (int_place tag) (int_spelled tag)
 
+-- BOOLEAN: each contents octet but 00 means true (X.690, 8.2), and true is written FF (X.690, 11.1)
 abbrev pub boolean : AsnTag → Place Bool
 boolean tag =
-    lawful_place {P = tagged tag bool_meaning} {tags = tag ∷ []} {meaning = bool_meaning} {spelling = bool_spelling tag} (bool_place tag)
-    (bool_spelled tag)
+    lawful_place {P = tagged tag bool_meaning} {tags = tag ∷ []} {meaning = bool_meaning}
+    {spelling = bool_spelling tag} (bool_place tag) (bool_spelled tag)
 
 -- a constructed element, kept with whatever it contains
 abbrev pub opaque : AsnTag → Place Element
 opaque tag =
-    lawful_place {P = tagged tag constructed} {tags = tag ∷ []} {meaning = constructed} {spelling = constructed_spelling tag}
-    (constructed_at_tag tag) (constructed_spelled tag)
+    lawful_place {P = tagged tag constructed} {tags = tag ∷ []} {meaning = constructed}
+    {spelling = constructed_spelling tag} (constructed_at_tag tag) (constructed_spelled tag)
 
 -- the elements of a value, within an element with the tag
 abbrev pub within : {V : Type 0} → AsnTag → Elements V → Place V
@@ -91,6 +94,7 @@ within tag e =
 abbrev pub alone : {A : Type 0} → Place A → Elements A
 alone p = of_table (required p (λ x. x) ended) (λ x. x) (λ x. refl) (λ x. refl) refl
 
+-- an element of the place alone, within an element with the outer tag (EXPLICIT)
 abbrev pub explicit : {A : Type 0} → AsnTag → Place A → Place A
 explicit tag p = within tag (alone p)
 
@@ -113,10 +117,11 @@ list tag p =
     lawful_place {P = λ xs. sequence tag (each p.writes xs)} {tags = tag ∷ []} {meaning = list_meaning (whole_of p)}
     {spelling = λ xs. around tag (all_spellings p.spelling xs)} (list_place p tag) (list_spelled p tag)
 
--- SEQUENCE OF strings that all have the inner tag
+-- the octets of a string, if the element has this tag
 abbrev pub text_under : AsnTag → Element → Option (List ℕ)
 text_under tag n = if among (tag_of n) (tag ∷ []) then octets_meaning n else None
 
+-- the octets of strings in order: the first tag is that of the SEQUENCE OF, and the second that of each string
 abbrev pub strings : AsnTag → AsnTag → Place (List (List ℕ))
 strings tag inner =
     lawful_place {P = λ xs. sequence tag (each (tagged inner octets_meaning) xs)} {tags = tag ∷ []}

@@ -127,7 +127,8 @@ impl PartsBuf {
         inner: Tag,
         value: &Option<T>,
     ) -> Result<(), BuildError>
-        ensures puts { BuildStepResult (optional_put (explicit outer (T.place inner)).spelling value.now self.old) result self.new }
+        ensures puts { BuildStepResult (optional_put (explicit outer (T.place inner)).spelling
+            value.now self.old) result self.new }
         ensures err { OnErr result (self.new ≡ self.old) }
     {
         match value {
@@ -148,7 +149,8 @@ impl PartsBuf {
         outer: Tag,
         value: &T,
     ) -> Result<(), BuildError>
-        ensures puts { BuildStepResult (required_put (explicit outer T.place).spelling value.now self.old) result self.new }
+        ensures puts { BuildStepResult (required_put (explicit outer T.place).spelling
+            value.now self.old) result self.new }
         ensures err { OnErr result (self.new ≡ self.old) }
     {
         let node = write_alone_tagged(alloc, value, outer)?;
@@ -164,7 +166,8 @@ impl PartsBuf {
         outer: Tag,
         value: &Option<T>,
     ) -> Result<(), BuildError>
-        ensures puts { BuildStepResult (optional_put (explicit outer T.place).spelling value.now self.old) result self.new }
+        ensures puts { BuildStepResult (optional_put (explicit outer T.place).spelling
+            value.now self.old) result self.new }
         ensures err { OnErr result (self.new ≡ self.old) }
     {
         match value {
@@ -182,7 +185,8 @@ impl PartsBuf {
         inner: Tag,
         texts: &Seq<Bytes>,
     ) -> Result<(), BuildError>
-        ensures puts { BuildStepResult (required_put (strings outer inner).spelling texts.now self.old) result self.new }
+        ensures puts { BuildStepResult (required_put (strings outer inner).spelling
+            texts.now self.old) result self.new }
         ensures err { OnErr result (self.new ≡ self.old) }
     {
         let node = write_texts(alloc, texts, outer, inner)?;

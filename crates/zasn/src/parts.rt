@@ -192,7 +192,8 @@ impl<'a> Parts<'a> {
         alloc: Global,
         outer: Tag,
     ) -> Result<Option<T>, PartError>
-        ensures takes { StepResult (optional_at (outer ∷ []) (sequence_of (alone T.place).at) self.old) result self.new }
+        ensures takes { StepResult (optional_at (outer ∷ [])
+            (sequence_of (alone T.place).at) self.old) result self.new }
         ensures err { OnErr result (self.new ≡ self.old) }
     {
         let Some((first, others)) = self.next_with(outer) else {
@@ -214,7 +215,8 @@ impl<'a> Parts<'a> {
         outer: Tag,
         inner: Tag,
     ) -> Result<Seq<Bytes>, PartError>
-        ensures takes { StepResult (required_at (outer ∷ []) (list_meaning (text_under inner)) self.old) result self.new }
+        ensures takes { StepResult (required_at (outer ∷ [])
+            (list_meaning (text_under inner)) self.old) result self.new }
         ensures err { OnErr result (self.new ≡ self.old) }
     {
         let Some((first, others)) = self.next_with(outer) else {

@@ -5,6 +5,7 @@ use Rattle.zber.specs.Elements.{Element, Primitive, Constructed}
 use Rattle.zber.specs.Tags.{same_tag}
 use Rattle.zasn_tables.specs.Reading.{option_map}
 
+-- builds on from the elements written so far, or gives nothing if a part before has no spelling
 infixl 10 ◌>>=◌
 abbrev pub ◌>>=◌ : {A B : Type 0} → Option A → (A → Option B) → Option B
 (Some x) >>= f = f x
@@ -19,6 +20,7 @@ constructed_spelling tag (Constructed t f) = if same_tag t tag then Some (Constr
 abbrev pub required_put : {A : Type 0} → (A → Option Element) → A → List Element → Option (List Element)
 required_put spelling x out = option_map (λ n. out ++ n ∷ []) (spelling x)
 
+-- adds the element of a value if there is a value; without one the elements stay as they are
 abbrev pub optional_put : {A : Type 0} → (A → Option Element) → Option A → List Element → Option (List Element)
 optional_put spelling None out = Some out
 optional_put spelling (Some x) out = required_put spelling x out

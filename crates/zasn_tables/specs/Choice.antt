@@ -32,7 +32,8 @@ ValueWrites (either p wrap more) (inr y) n = ValueWrites more y n
 -- what an element means, by the first kind that has its tag
 abbrev pub choice_meaning : {C : Type 0} → Choice C → Element → Option C
 choice_meaning (finally p wrap) n = if among (tag_of n) p.tags then option_map wrap (p.meaning n) else None
-choice_meaning (either p wrap more) n = if among (tag_of n) p.tags then option_map wrap (p.meaning n) else choice_meaning more n
+choice_meaning (either p wrap more) n =
+    if among (tag_of n) p.tags then option_map wrap (p.meaning n) else choice_meaning more n
 
 -- the element of a value
 abbrev pub choice_spelling : {C : Type 0} (c : Choice C) → Pick c → Option Element

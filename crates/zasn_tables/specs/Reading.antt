@@ -9,11 +9,13 @@ abbrev pub constructed : Element → Option Element
 constructed (Primitive t b) = None
 constructed (Constructed t f) = Some (Constructed t f)
 
+-- reads on from what was read so far, or keeps the elements that were left at a misfit before
 infixl 10 ◌>>=◌
 abbrev pub ◌>>=◌ : {A B : Type 0} → Result A (List Element) → (A → Result B (List Element)) → Result B (List Element)
 (Ok x) >>= f = f x
 (Err r) >>= f = Err r
 
+-- the function's result for the value, if there is a value
 abbrev pub option_map : {A B : Type 0} → (A → B) → Option A → Option B
 option_map f (Some x) = Some (f x)
 option_map f None = None

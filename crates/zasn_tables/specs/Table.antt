@@ -37,6 +37,7 @@ Fields (required {A = A} p get more) = A × Fields more
 Fields (optional {A = A} p get more) = Option A × Fields more
 Fields (also {W = W} e get) = W
 
+-- the values that a value of V has at the places, in their order
 abbrev pub fields : {V : Type 0} (t : ComponentTable V) → V → Fields t
 fields ended v = tt
 fields (required p get more) v = (get v, fields more v)

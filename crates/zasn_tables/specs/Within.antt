@@ -28,6 +28,7 @@ alone_at tags meaning ns = required_at tags meaning ns >>= λ a. ended_at a.1 >>
 abbrev pub itself : Element → Element → Type 0
 itself m n = n ≡ m
 
+-- reads one element alone, of any tag and form; the misfit is at the end if there is none, else at the second
 abbrev pub any_at : List Element → Result Element (List Element)
 any_at [] = Err []
 any_at (n ∷ []) = Ok n

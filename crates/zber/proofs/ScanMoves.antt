@@ -16,7 +16,7 @@ use Rattle.zber.specs.Unfinished.{IsUnfinished}
 use Rattle.zber.specs.Fronts.{IsHeaderFrontOf}
 use Rattle.zber.specs.Paths.{start, IsHere}
 use Rattle.zber.specs.Scans.{ScanPlace, IsGoing, IsScanned, IsScannedAs, IsReadingOf, len_of, behind_reading, BeforePass, BeforeEnter, BeforeClose, IsWhole, SameScan}
-use Rattle.zber.specs.Moves.{load, weight, HasPosition}
+use Rattle.zber.specs.Moves.{load, steps_left, HasPosition}
 use Rattle.zber.proofs.ElementLemmas.{head_some, differ}
 use Rattle.zber.proofs.Stopping.{IsStopAt, at_front, in_octets, lack}
 use Rattle.zber.proofs.PathLemmas.{take_all, take_behind, from_front}
@@ -126,13 +126,13 @@ pub load_behind : (n : ℕ) (r : Reading) → r ≡ behind_reading n → load r 
 load_behind zero r e = rw e refl
 load_behind (suc n) r e = rw e refl
 
-pub less : (n : ℕ) (s t : Scan) (at contents opened len : ℕ) (r : Reading) → s.reading ≡ r → load r ≡ 2 → HasPosition t at contents opened → s.at + len_of r ≤ at → opened ≤ length s.opened.items + 1 → weight n t < weight n s
+pub less : (n : ℕ) (s t : Scan) (at contents opened len : ℕ) (r : Reading) → s.reading ≡ r → load r ≡ 2 → HasPosition t at contents opened → s.at + len_of r ≤ at → opened ≤ length s.opened.items + 1 → steps_left n t < steps_left n s
 less n s t at contents opened len r e l f p q = rw (e, l, f.light, f.len, f.at_is, f.open_are) (omega (arith, p, q))
 
-pub less_closed : (n : ℕ) (s t : Scan) (at contents opened : ℕ) (r : Reading) → s.reading ≡ r → len_of r ≡ 0 → HasPosition t at contents opened → at ≡ s.at → opened < length s.opened.items → weight n t < weight n s
+pub less_closed : (n : ℕ) (s t : Scan) (at contents opened : ℕ) (r : Reading) → s.reading ≡ r → len_of r ≡ 0 → HasPosition t at contents opened → at ≡ s.at → opened < length s.opened.items → steps_left n t < steps_left n s
 less_closed n s t at contents opened r e l f p q = rw (e, l, f.light, f.len, f.at_is, f.open_are, p) (omega (arith, q))
 
-pub less_looked : (n : ℕ) (s : Scan) (r old : Reading) → s.reading ≡ old → s.at + len_of old < n → len_of r ≡ len_of old + 1 → weight n (record s { reading = r }) < weight n s
+pub less_looked : (n : ℕ) (s : Scan) (r old : Reading) → s.reading ≡ old → s.at + len_of old < n → len_of r ≡ len_of old + 1 → steps_left n (record s { reading = r }) < steps_left n s
 less_looked n s r old e l q = rw (e, q) (omega (arith, l, heavy r)) where
   heavy : (r : Reading) → load r ≤ 2
   heavy (AtFront f len) = omega arith

@@ -3,6 +3,7 @@ use Rattle.std.specs.Prelude.{ℕ, List, codes}
 use Rattle.zber.specs.declared.fault.FaultKind.{FaultKind}
 use Rattle.zber.specs.declared.fault.FaultKind.TheVariants as kind
 
+-- the name that reports print for a kind of fault, as character codes
 abbrev pub fault_kind_name : FaultKind → List ℕ
 fault_kind_name kind.TagForm = codes "TagForm"
 fault_kind_name kind.TagTooLarge = codes "TagTooLarge"

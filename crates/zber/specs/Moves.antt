@@ -23,8 +23,8 @@ load End = 2
 load Whole = 0
 
 -- what is left to do in `n` octets: it falls at each step
-abbrev pub weight : ℕ → Scan → ℕ
-weight n s = 3 * (n - pos s) + length s.opened.items + load s.reading
+abbrev pub steps_left : ℕ → Scan → ℕ
+steps_left n s = 3 * (n - pos s) + length s.opened.items + load s.reading
 
 -- The scan is at the start of a header, or has the whole message. So many contents octets come before it, and so many
 -- elements are open.
@@ -38,11 +38,11 @@ pub record HasPosition (s : Scan) (at contents opened : ℕ) : Type 0 where
 -- after `look_on` the scan still covers the octets, and has no more left to do
 pub record AfterLookOn (limit : ℕ) (xs : List ℕ) (old s : Scan) : Type 0 where
   pub holds : IsScanned limit xs s
-  pub no_heavier : weight (length xs) s ≤ weight (length xs) old
+  pub no_heavier : steps_left (length xs) s ≤ steps_left (length xs) old
 
 -- after a step: the scan went on, it lacks octets, or the octets show a fault
 abbrev pub AfterMove : ℕ → List ℕ → Scan → Scan → Move → Type 0
-AfterMove limit xs old s On = IsScanned limit xs s × (weight (length xs) s < weight (length xs) old)
+AfterMove limit xs old s On = IsScanned limit xs s × (steps_left (length xs) s < steps_left (length xs) old)
 AfterMove limit xs old s Lack = (s ≡ old) × IsUnfinished limit xs
 AfterMove limit xs old s (Fault k) = HasFault limit xs k s.at
 

@@ -16,6 +16,7 @@ start limit = record { size = limit; past = kind.TooLong; marked = false; room =
 abbrev pub within_size : ℕ → ℕ → HeaderPlace
 within_size size room = record { size = size; past = kind.Overrun; marked = false; room = room }
 
+-- inside an element of indefinite length (8.1.3.6): the outer bound still holds, less the header's octets
 abbrev pub within_mark : HeaderPlace → ℕ → ℕ → HeaderPlace
 within_mark p len room = record { size = p.size - len; past = p.past; marked = true; room = room }
 
@@ -26,7 +27,8 @@ after p n = record { size = p.size - n; past = p.past; marked = p.marked; room =
 -- at the place, this lawful header opens an element, and the first place inside it is this one
 pub data IsOpening (p : HeaderPlace) (n : AsnTag) : List ℕ → HeaderPlace → Type 0 where
   definite : {size room : ℕ} {h : List ℕ}
-      → Header n true (Some size) h → length h + size ≤ p.size → p.room ≡ suc room → IsOpening p n h (within_size size room)
+      → Header n true (Some size) h → length h + size ≤ p.size → p.room ≡ suc room
+      → IsOpening p n h (within_size size room)
   indefinite : {room : ℕ} {h : List ℕ}
       → Header n true None h → length h ≤ p.size → p.room ≡ suc room → IsOpening p n h (within_mark p (length h) room)
 

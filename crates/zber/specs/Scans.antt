@@ -130,6 +130,7 @@ pub record BeforeEnter (limit : ℕ) (xs : List ℕ) (s : Scan) (n : AsnTag) (si
 abbrev pub IsEndBySize : HeaderPlace → ℕ → Type 0
 IsEndBySize p len = (len ≡ 0) × (p.marked ≡ false) × (p.size ≡ 0)
 
+-- an element of indefinite length ends at the place: the next octets are 00 00, and lie within its bound (8.1.5)
 abbrev pub IsEndByMark : HeaderPlace → ℕ → List ℕ → Type 0
 IsEndByMark p len ys = (len ≡ 2) × (p.marked ≡ true) × (2 ≤ p.size) × (take 2 ys ≡ 0 ∷ 0 ∷ [])
 

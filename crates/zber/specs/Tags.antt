@@ -4,6 +4,7 @@ use Rattle.zber.specs.declared.tag.Class.{Class}
 use Rattle.zber.specs.declared.tag.Class.TheVariants.{Universal, Application, Context, Private}
 use Rattle.zber.specs.AsnTags.{AsnTag}
 
+-- whether two classes are equal
 abbrev pub same_class : Class → Class → Bool
 same_class Universal Universal = true
 same_class Application Application = true
@@ -11,6 +12,7 @@ same_class Context Context = true
 same_class Private Private = true
 same_class _ _ = false
 
+-- whether two tags are equal: in class and in number
 abbrev pub same_tag : AsnTag → AsnTag → Bool
 same_tag t u = same_class t.class u.class && (t.number == u.number)
 

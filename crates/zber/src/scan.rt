@@ -282,7 +282,8 @@ impl Scan {
         ensures ok { OnOk result ((limit : ℕ) (xs : List ℕ)
             → BeforePass limit xs self.old tag len size → IsScanned limit xs self.new) }
         ensures stands { OnOk result
-            (HasPosition self.new (self.old.at + (len + size)) (self.old.contents + size) (length self.old.opened.items)) }
+            (HasPosition self.new (self.old.at + (len + size)) (self.old.contents + size)
+            (length self.old.opened.items)) }
         ensures err { OnErr result (SameScan self.old self.new) }
     {
         self.finished.push(Finished::Prim {
@@ -475,7 +476,8 @@ impl Scan {
         // what was found
         ensures ok { IfOk result (λ f. (limit : ℕ)
             → IsScanned limit octets.now self.old → AfterScan limit octets.now self.new f) }
-        ensures err { OnErr result ((limit : ℕ) → IsScanned limit octets.now self.old → IsScanned limit octets.now self.new) }
+        ensures err { OnErr result ((limit : ℕ)
+            → IsScanned limit octets.now self.old → IsScanned limit octets.now self.new) }
         // how many octets were examined
         ensures counts { IfOk result
             (λ f. FoundCounts (length octets.now) self.old self.new examined.old examined.new f) }

@@ -1,8 +1,8 @@
 // Messages and faults of a stream of octets, worked out from X.690, 8.1.
 use crate::encodings::PRESENT_RESPONSE;
-use crate::rows::{LIMIT, each_row, element, encoding, is_true, octets, pair, split_row, tells};
-use crate::scripts::{answers, put_next};
-use crate::unread::Unread;
+use crate::rows::{LIMIT, each_row, element, encoding, octets, pair, split_row, tells};
+use crate::scripts::{answers, answers_as, put_next};
+use crate::unread::{Unread, read};
 use std::alloc::{AllocError, Global};
 use std::process::Abort;
 use std::test::Fail;
@@ -44,23 +44,28 @@ ffffffffffff TagTooLarge at 0
 ";
 
 // A fault is answered for good, whatever comes.
-fn stays(alloc: Global, digits: &str, due: &str) -> Result<bool, Unread> {
-    let script = format!(in alloc; "{digits} next {PRESENT_RESPONSE} next finish")?;
-    let due = format!(in alloc; "{due};{due};{due};")?;
-    Ok(tells(answers(alloc, LIMIT, script.as_str()), due.as_str()))
+fn stays(alloc: Global, digits: &str, due: &str) -> bool {
+    answers_as(
+        alloc,
+        format!(in alloc; "{digits} next {PRESENT_RESPONSE} next finish"),
+        format!(in alloc; "{due};{due};{due};"),
+    )
 }
 
 // It comes after the messages before it, and its place counts from the message at fault.
-fn comes_after(alloc: Global, digits: &str, due: &str) -> Result<bool, Unread> {
-    let script = format!(in alloc; "{PRESENT_RESPONSE} {digits} next next")?;
-    let due = format!(in alloc; "elements 5;{due};")?;
-    Ok(tells(answers(alloc, LIMIT, script.as_str()), due.as_str()))
+fn comes_after(alloc: Global, digits: &str, due: &str) -> bool {
+    answers_as(
+        alloc,
+        format!(in alloc; "{PRESENT_RESPONSE} {digits} next next"),
+        format!(in alloc; "elements 5;{due};"),
+    )
 }
 
 fn feed_each(framer: &mut Framer, octets: &[u8], trace: &mut String) -> Result<(), AllocError> {
     for octet in octets {
-        framer.feed(&[*octet])?;
-        put_next(framer, trace)?;
+        if framer.feed(&[*octet]).is_err() || put_next(framer, trace).is_err() {
+            return Err(AllocError);
+        }
     }
     Ok(())
 }
@@ -69,30 +74,38 @@ fn feed_each(framer: &mut Framer, octets: &[u8], trace: &mut String) -> Result<(
 fn by_octet(alloc: Global, octets: &[u8]) -> Result<String, AllocError> {
     let mut trace = String::new(alloc);
     let mut framer = Framer::new(alloc, LIMIT);
-    feed_each(&mut framer, octets, &mut trace)?;
+    if feed_each(&mut framer, octets, &mut trace).is_err() {
+        return Err(AllocError);
+    }
     Ok(trace)
 }
 
 // It comes with the last octet and not before.
-fn comes_last(alloc: Global, digits: &str, due: &str) -> Result<bool, Unread> {
-    let octets = octets(alloc, digits)?;
-    let before = "nothing;".repeat(alloc, octets.len().saturating_sub(1))?;
-    let due = format!(in alloc; "{before}{due};")?;
-    Ok(tells(by_octet(alloc, octets.as_slice()), due.as_str()))
+fn comes_last(alloc: Global, digits: &str, due: &str) -> bool {
+    let Ok(octets) = octets(alloc, digits) else {
+        return false;
+    };
+    let Ok(before) = "nothing;".repeat(alloc, octets.len().saturating_sub(1)) else {
+        return false;
+    };
+    let Ok(due) = format!(in alloc; "{before}{due};") else {
+        return false;
+    };
+    tells(by_octet(alloc, octets.as_slice()), due.as_str())
 }
 
 fn is_fault(alloc: Global, row: &str) -> Result<bool, Unread> {
     let (digits, due) = pair(row);
     Ok(
-        is_true(stays(alloc, digits, due))
-            && is_true(comes_last(alloc, digits, due))
-            && is_true(comes_after(alloc, digits, due)),
+        stays(alloc, digits, due)
+            && comes_last(alloc, digits, due)
+            && comes_after(alloc, digits, due),
     )
 }
 
 #[test]
 fn faults_come_with_the_octets_that_decide_them(rt: HostRuntime) -> Result<(), Fail> {
-    each_row(rt.alloc(), FAULTS, &is_fault)
+    each_row(rt.alloc(), FAULTS, is_fault)
 }
 
 // Scripts and answers: headers at the borders of what is lawful; what is left before, in and after a message.
@@ -119,14 +132,20 @@ fn is_accepted(alloc: Global, row: &str) -> Result<bool, Unread> {
 
 #[test]
 fn lawful_octets_are_messages(rt: HostRuntime) -> Result<(), Fail> {
-    each_row(rt.alloc(), ACCEPTED, &is_accepted)
+    each_row(rt.alloc(), ACCEPTED, is_accepted)
 }
 
 // What so many constructed elements of indefinite length within one another show, octets within them, and so many ends.
 fn nesting_trace(alloc: Global, opens: usize, within: &str, ends: usize) -> Result<String, Unread> {
-    let opens = "3080".repeat(alloc, opens)?;
-    let ends = "0000".repeat(alloc, ends)?;
-    let script = format!(in alloc; "{opens} {within} {ends} next")?;
+    let Ok(opens) = "3080".repeat(alloc, opens) else {
+        return Err(Unread);
+    };
+    let Ok(ends) = "0000".repeat(alloc, ends) else {
+        return Err(Unread);
+    };
+    let Ok(script) = format!(in alloc; "{opens} {within} {ends} next") else {
+        return Err(Unread);
+    };
     answers(alloc, LIMIT, script.as_str())
 }
 
@@ -142,18 +161,15 @@ fn is_nested(alloc: Global, row: &str) -> Result<bool, Unread> {
     let (opens, rest) = pair(row);
     let (within, rest) = pair(rest);
     let (ends, due) = pair(rest);
-    let trace = nesting_trace(
-        alloc,
-        opens.parse::<usize>()?,
-        within,
-        ends.parse::<usize>()?,
-    );
-    Ok(tells(trace, due))
+    let (Ok(opens), Ok(ends)) = (opens.parse::<usize>(), ends.parse::<usize>()) else {
+        return Err(Unread);
+    };
+    Ok(tells(nesting_trace(alloc, opens, within, ends), due))
 }
 
 #[test]
 fn sixty_four_levels_are_read(rt: HostRuntime) -> Result<(), Fail> {
-    each_row(rt.alloc(), NESTED, &is_nested)
+    each_row(rt.alloc(), NESTED, is_nested)
 }
 
 // One octet more of an indefinite length passes the limit where the octets reach it.
@@ -166,17 +182,21 @@ fn a_message_ends_at_the_limit(rt: HostRuntime) -> Result<(), Fail> {
 
 // A copy of the message that digits spell, which is gone by then.
 fn copy_of(alloc: Global, digits: &str) -> Result<Node, Unread> {
-    let node = element(alloc, digits)?;
-    Ok(node.copy(alloc)?)
+    let Ok(node) = element(alloc, digits) else {
+        return Err(Unread);
+    };
+    read(node.copy(alloc))
 }
 
-fn is_copied(alloc: Global, digits: &str) -> Result<bool, Unread> {
-    let copy = copy_of(alloc, digits)?;
-    Ok(tells(encoding(alloc, &copy), digits))
+fn is_copied(alloc: Global, digits: &str) -> bool {
+    let Ok(copy) = copy_of(alloc, digits) else {
+        return false;
+    };
+    tells(encoding(alloc, &copy), digits)
 }
 
 #[test]
 fn a_copy_is_kept_apart(rt: HostRuntime) -> Result<(), Fail> {
-    assert!(rt; is_true(is_copied(rt.alloc(), PRESENT_RESPONSE)));
+    assert!(rt; is_copied(rt.alloc(), PRESENT_RESPONSE));
     Ok(())
 }

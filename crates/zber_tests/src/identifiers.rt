@@ -1,6 +1,6 @@
 // Texts of object identifiers, worked out from X.690, 8.19, and X.660.
 use crate::rows::{each_row, pair, split_row, tells};
-use crate::unread::Unread;
+use crate::unread::{Unread, read};
 use std::alloc::{AllocError, Global};
 use std::process::Abort;
 use std::test::Fail;
@@ -17,9 +17,13 @@ const TEXTS: &str = "\
 ";
 
 fn text(alloc: Global, text: &str) -> Result<String, Unread> {
-    let oid = Oid::parse_dotted(alloc, text.as_bytes())?;
-    let same = Oid::from_arcs(alloc, oid.arcs())?;
-    Ok(same.text(alloc)?)
+    let Ok(oid) = Oid::parse_dotted(alloc, text.as_bytes()) else {
+        return Err(Unread);
+    };
+    let Ok(same) = Oid::from_arcs(alloc, oid.arcs()) else {
+        return Err(Unread);
+    };
+    read(same.text(alloc))
 }
 
 fn is_text(alloc: Global, row: &str) -> Result<bool, Unread> {
@@ -28,7 +32,7 @@ fn is_text(alloc: Global, row: &str) -> Result<bool, Unread> {
 
 #[test]
 fn texts_are_read_and_printed(rt: HostRuntime) -> Result<(), Fail> {
-    each_row(rt.alloc(), TEXTS, &is_text)
+    each_row(rt.alloc(), TEXTS, is_text)
 }
 
 // Refusals, and texts that are refused.
@@ -69,7 +73,7 @@ fn is_refused(alloc: Global, row: &str) -> Result<bool, Unread> {
 
 #[test]
 fn other_texts_are_refused(rt: HostRuntime) -> Result<(), Fail> {
-    each_row(rt.alloc(), REFUSED, &is_refused)
+    each_row(rt.alloc(), REFUSED, is_refused)
 }
 
 // Arcs and their refusals.
@@ -84,18 +88,25 @@ const ARCS: &str = "\
 fn arcs(alloc: Global, row: &str) -> Result<Vec<u32>, Unread> {
     let mut arcs = Vec::new(alloc);
     for arc in row.split_whitespace() {
-        arcs.push(arc.parse::<u32>()?)?;
+        let Ok(arc) = arc.parse::<u32>() else {
+            return Err(Unread);
+        };
+        if arcs.push(arc).is_err() {
+            return Err(Unread);
+        }
     }
     Ok(arcs)
 }
 
 fn are_arcs(alloc: Global, row: &str) -> Result<bool, Unread> {
     let (row, due) = split_row(row, ": ");
-    let arcs = arcs(alloc, row)?;
+    let Ok(arcs) = arcs(alloc, row) else {
+        return Err(Unread);
+    };
     Ok(tells(error_of(alloc, Oid::from_arcs(alloc, arcs.as_slice())), due))
 }
 
 #[test]
 fn arcs_are_refused(rt: HostRuntime) -> Result<(), Fail> {
-    each_row(rt.alloc(), ARCS, &are_arcs)
+    each_row(rt.alloc(), ARCS, are_arcs)
 }

@@ -7,7 +7,9 @@ pub fn nest_elements(alloc: Global, levels: u32) -> Result<Node, AllocError> {
     let mut node = Node::of_null(Tag::context(0));
     for _ in 0..levels {
         let mut nodes = Vec::new(alloc);
-        nodes.push(node)?;
+        if nodes.push(node).is_err() {
+            return Err(AllocError);
+        }
         node = Node::cons(Tag::universal(16), nodes);
     }
     Ok(node)

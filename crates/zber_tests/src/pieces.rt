@@ -1,7 +1,7 @@
 // Octets in pieces: a cut changes no answer, and each octet is looked at once (X.690, 8.1).
 use crate::framing::FAULTS;
-use crate::rows::{LIMIT, each_row, is_true, octets, pair, split_row, split_text, tells};
-use crate::scripts::answers;
+use crate::rows::{LIMIT, each_row, octets, pair, split_row, split_text};
+use crate::scripts::answers_as;
 use crate::unread::Unread;
 use std::alloc::Global;
 use std::process::Abort;
@@ -12,38 +12,52 @@ use zber::{Body, FrameError, Framer, Node};
 fn stream(alloc: Global, row: &str) -> Result<Vec<u8>, Unread> {
     let (digits, rest) = pair(row);
     let (count, more) = pair(rest);
-    let mut stream = octets(alloc, digits)?;
-    let more = octets(alloc, more)?;
-    for _ in 0..count.parse::<u32>()? {
-        stream.extend_from_slice(more.as_slice())?;
+    let Ok(mut stream) = octets(alloc, digits) else {
+        return Err(Unread);
+    };
+    let Ok(more) = octets(alloc, more) else {
+        return Err(Unread);
+    };
+    let Ok(count) = count.parse::<u32>() else {
+        return Err(Unread);
+    };
+    for _ in 0..count {
+        if stream.extend_from_slice(more.as_slice()).is_err() {
+            return Err(Unread);
+        }
     }
     Ok(stream)
 }
 
-fn is_message(framer: &mut Framer) -> Result<bool, FrameError> {
-    let message = framer.next()?;
-    Ok(message.is_some())
+fn is_message(framer: &mut Framer) -> bool {
+    matches!(framer.next(), Ok(Some(_)))
 }
 
-// How many octets stood before each one that ended a message, of octets that are fed one by one with a question after
-// each.
-fn ends(alloc: Global, framer: &mut Framer, stream: &[u8]) -> Result<Vec<usize>, Unread> {
-    let mut ends = Vec::new(alloc);
+// Whether the last octet ends a message and no other does, of octets that are fed one by one with a question after each.
+fn ends_last(framer: &mut Framer, stream: &[u8]) -> bool {
+    let last = stream.len().saturating_sub(1);
     for (before, octet) in stream.iter().enumerate() {
-        framer.feed(&[*octet])?;
-        if is_message(framer)? {
-            ends.push(before)?;
+        if framer.feed(&[*octet]).is_err() || is_message(framer) != (before == last) {
+            return false;
         }
     }
-    Ok(ends)
+    true
 }
 
 // Whether it has looked at a number of octets between the first two, and passed over so many as the third.
-fn has_counts(framer: &Framer, due: &str) -> Result<bool, Unread> {
+fn has_counts(framer: &Framer, due: &str) -> bool {
     let (least, rest) = pair(due);
     let (most, skipped) = pair(rest);
-    let counts = least.parse::<u64>()?..=most.parse::<u64>()?;
-    Ok(counts.contains(&framer.examined()) && framer.skipped() == skipped.parse::<u64>()?)
+    match (
+        least.parse::<u64>(),
+        most.parse::<u64>(),
+        skipped.parse::<u64>(),
+    ) {
+        (Ok(least), Ok(most), Ok(skipped)) => {
+            least <= framer.examined() && framer.examined() <= most && framer.skipped() == skipped
+        }
+        _ => false,
+    }
 }
 
 // Octets that are one message, the least and the most of them that are looked at, and how many are passed over. A
@@ -55,56 +69,67 @@ b9808204000000029801019901029b0100bc803015a113a1112882000d06072a8648ce13050a8102
 04831ffffb 2097147 2a: 5 2097152 2097147
 ";
 
+fn has_counts_after(alloc: Global, stream: &[u8], due: &str) -> bool {
+    let mut framer = Framer::new(alloc, LIMIT);
+    ends_last(&mut framer, stream) && has_counts(&framer, due)
+}
+
 fn is_counted(alloc: Global, row: &str) -> Result<bool, Unread> {
     let (octets, due) = split_row(row, ": ");
-    let stream = stream(alloc, octets)?;
-    let mut framer = Framer::new(alloc, LIMIT);
-    let ends = ends(alloc, &mut framer, stream.as_slice())?;
-    let is_one = ends.as_slice() == [stream.len().saturating_sub(1)].as_slice();
-    Ok(is_one && is_true(has_counts(&framer, due)))
+    match stream(alloc, octets) {
+        Ok(stream) => Ok(has_counts_after(alloc, stream.as_slice(), due)),
+        Err(_) => Err(Unread),
+    }
 }
 
 #[test]
 fn each_octet_is_looked_at_once(rt: HostRuntime) -> Result<(), Fail> {
-    each_row(rt.alloc(), COUNTED, &is_counted)
+    each_row(rt.alloc(), COUNTED, is_counted)
 }
 
 // Whether there are so many messages and nothing more.
-fn gives(framer: &mut Framer, count: u32) -> Result<bool, FrameError> {
+fn gives(framer: &mut Framer, count: u32) -> bool {
     for _ in 0..count {
-        if !is_message(framer)? {
-            return Ok(false);
+        if !is_message(framer) {
+            return false;
         }
     }
-    Ok(!is_message(framer)? && framer.finish()?)
+    matches!(framer.next(), Ok(None)) && matches!(framer.finish(), Ok(true))
+}
+
+fn gives_at_once(alloc: Global, stream: &[u8], count: u32) -> bool {
+    let mut framer = Framer::new(alloc, LIMIT);
+    framer.feed(stream).is_ok() && gives(&mut framer, count)
 }
 
 // Two megabytes; a framer that moved what is left at each message would move 262 gigabytes.
-fn come_in_one_piece(alloc: Global, row: &str, count: u32) -> Result<bool, Unread> {
-    let stream = stream(alloc, row)?;
-    let mut framer = Framer::new(alloc, LIMIT);
-    framer.feed(stream.as_slice())?;
-    Ok(is_true(gives(&mut framer, count)))
+fn come_in_one_piece(alloc: Global, row: &str, count: u32) -> bool {
+    match stream(alloc, row) {
+        Ok(stream) => gives_at_once(alloc, stream.as_slice(), count),
+        Err(_) => false,
+    }
 }
 
 #[test]
 fn many_messages_come_in_one_piece(rt: HostRuntime) -> Result<(), Fail> {
-    assert!(rt; is_true(come_in_one_piece(rt.alloc(), "- 250000 bf30059f81530100", 250_000)));
+    assert!(rt; come_in_one_piece(rt.alloc(), "- 250000 bf30059f81530100", 250_000));
     Ok(())
 }
 
 // Whether it comes with the second of two pieces, the first of which has so many digits.
-fn comes_behind(alloc: Global, digits: &str, due: &str, place: usize) -> Result<bool, Unread> {
+fn comes_behind(alloc: Global, digits: &str, due: &str, place: usize) -> bool {
     let (first, second) = split_text(digits, place);
-    let script = format!(in alloc; "{first} next {second} next")?;
-    let due = format!(in alloc; "nothing;{due};")?;
-    Ok(tells(answers(alloc, LIMIT, script.as_str()), due.as_str()))
+    answers_as(
+        alloc,
+        format!(in alloc; "{first} next {second} next"),
+        format!(in alloc; "nothing;{due};"),
+    )
 }
 
 fn comes_behind_each_cut(alloc: Global, row: &str) -> Result<bool, Unread> {
     let (digits, due) = pair(row);
     for place in 0..digits.len() {
-        if place % 2 == 0 && !is_true(comes_behind(alloc, digits, due, place)) {
+        if place % 2 == 0 && !comes_behind(alloc, digits, due, place) {
             return Ok(false);
         }
     }
@@ -113,7 +138,7 @@ fn comes_behind_each_cut(alloc: Global, row: &str) -> Result<bool, Unread> {
 
 #[test]
 fn a_fault_is_the_same_behind_each_cut(rt: HostRuntime) -> Result<(), Fail> {
-    each_row(rt.alloc(), FAULTS, &comes_behind_each_cut)
+    each_row(rt.alloc(), FAULTS, comes_behind_each_cut)
 }
 
 // Messages of five elements, in definite and in indefinite lengths.
@@ -124,7 +149,7 @@ b9808204000000029801019901029b0100bc803015a113a1112882000d06072a8648ce13050a8102
 
 #[test]
 fn a_message_is_the_same_behind_each_cut(rt: HostRuntime) -> Result<(), Fail> {
-    each_row(rt.alloc(), MESSAGES, &comes_behind_each_cut)
+    each_row(rt.alloc(), MESSAGES, comes_behind_each_cut)
 }
 
 // The same steps, once more where memory was refused.
@@ -157,22 +182,41 @@ fn is_reference(node: &Node) -> bool {
     }
 }
 
+// Whether a piece shows nothing, or a response, which is counted.
+fn is_answered(framer: &mut Framer, piece: &[u8], count: &mut u32) -> bool {
+    if !feeds(framer, piece) {
+        return false;
+    }
+    match asks(framer) {
+        Ok(None) => true,
+        Ok(Some(node)) => {
+            *count = count.saturating_add(1);
+            is_response(&node)
+        }
+        Err(_) => false,
+    }
+}
+
 // How many responses come of octets that are fed seven at a time, none of which ends two; `None` where something else
 // comes.
 fn responses(framer: &mut Framer, stream: &[u8]) -> Option<u32> {
     let mut count = 0u32;
     for piece in stream.chunks(7) {
-        if !feeds(framer, piece) {
+        if !is_answered(framer, piece, &mut count) {
             return None;
-        }
-        if let Some(node) = asks(framer).ok()? {
-            if !is_response(&node) {
-                return None;
-            }
-            count = count.checked_add(1)?;
         }
     }
     Some(count)
+}
+
+// Whether eight responses come, each octet of them being fed, passed over or looked at once, and nothing is left.
+fn is_session(alloc: Global, stream: &[u8]) -> bool {
+    let mut framer = Framer::new(alloc, LIMIT);
+    responses(&mut framer, stream) == Some(8)
+        && framer.fed() == 368
+        && framer.skipped() == 128
+        && framer.examined() == 240
+        && matches!(framer.finish(), Ok(true))
 }
 
 // With ample memory each step is made once. Where one of its allocations is refused, the step is made again, and
@@ -182,12 +226,6 @@ fn a_session_goes_on_where_memory_was_refused(rt: HostRuntime) -> Result<(), Fai
     let row =
         "- 8 b9808204000000029801019901029b0100bc803015a113a1112882000d06072a8648ce13050a8102686900000000";
     let stream = stream(rt.alloc(), row)?;
-    let mut framer = Framer::new(rt.alloc(), LIMIT);
-    let count = responses(&mut framer, stream.as_slice());
-    assert_eq!(rt; count, Some(8));
-    assert_eq!(rt; framer.fed(), 368);
-    assert_eq!(rt; framer.skipped(), 128);
-    assert_eq!(rt; framer.examined(), 240);
-    assert_eq!(rt; framer.finish(), Ok(true));
+    assert!(rt; is_session(rt.alloc(), stream.as_slice()));
     Ok(())
 }

@@ -17,7 +17,7 @@ fn says(_alloc: Global, row: &str) -> Result<bool, Unread> {
 
 // Whether a test of a table passes.
 fn passes<R: Eprint>(rt: &R, alloc: Global, rows: &str) -> bool {
-    each_row(alloc, rows, &says).report(rt) == ExitCode::SUCCESS
+    each_row(alloc, rows, says).report(rt) == ExitCode::SUCCESS
 }
 
 #[test]

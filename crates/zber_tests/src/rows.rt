@@ -2,7 +2,7 @@
 //! digits.
 ghost use Rattle.std.specs.Prelude.{◌≡◌, ◌↔◌, true, Ok, IsTrue, IsOkAnd, string_bytes};
 
-use crate::unread::Unread;
+use crate::unread::{Unread, read};
 use std::alloc::{AllocError, Global};
 use std::test::Fail;
 use zber::{Framer, Node};
@@ -12,12 +12,12 @@ pub const LIMIT: u32 = 2_097_152;
 
 /// Fails with the first row of a table that does not hold, or of which that cannot be told; a row that begins with `#`
 /// says what those below it are.
-pub fn each_row<F: Fn(Global, &str) -> Result<bool, Unread>>(
+pub fn each_row(
     alloc: Global,
     rows: &str,
-    holds: &F,
+    holds: fn(Global, &str) -> Result<bool, Unread>,
 ) -> Result<(), Fail>
-    requires { F.IsAlwaysCallable holds.now }
+    requires { IsAlwaysCallable holds }
 {
     for row in rows.lines() {
         if !row.starts_with('#') && !is_true(holds(alloc, row)) {
@@ -79,7 +79,7 @@ pub fn octets(alloc: Global, digits: &str) -> Result<Vec<u8>, Unread> {
     if digits == "-" {
         Ok(Vec::new(alloc))
     } else {
-        Ok(hex::decode(alloc, digits)?)
+        read(hex::decode(alloc, digits))
     }
 }
 
@@ -95,21 +95,27 @@ pub fn digits(alloc: Global, octets: &[u8]) -> Result<String, AllocError> {
 /// The first message of octets.
 pub fn message(alloc: Global, octets: &[u8]) -> Result<Node, Unread> {
     let mut framer = Framer::new(alloc, LIMIT);
-    framer.feed(octets)?;
-    let node = framer.next()?.ok_or(Unread)?;
-    Ok(node)
+    let fed = framer.feed(octets).is_ok();
+    match framer.next() {
+        Ok(Some(node)) if fed => Ok(node),
+        _ => Err(Unread),
+    }
 }
 
 /// The element that digits spell.
 pub fn element(alloc: Global, digits: &str) -> Result<Node, Unread> {
-    let octets = octets(alloc, digits)?;
+    let Ok(octets) = octets(alloc, digits) else {
+        return Err(Unread);
+    };
     message(alloc, octets.as_slice())
 }
 
 /// The digits of an element's canonical encoding.
 pub fn encoding(alloc: Global, node: &Node) -> Result<String, AllocError> {
     let mut octets = Vec::new(alloc);
-    node.canonical(alloc, &mut octets)?;
+    if node.canonical(alloc, &mut octets).is_err() {
+        return Err(AllocError);
+    }
     digits(alloc, octets.as_slice())
 }
 
@@ -119,14 +125,19 @@ pub fn unescape(alloc: Global, text: &str) -> Result<Vec<u8>, Unread> {
     let mut digits = 0u8;
     for part in text.split('%') {
         let (escaped, plain) = split_text(part, digits as usize);
-        put_octets(alloc, escaped, &mut out)?;
-        out.extend_from_slice(plain.as_bytes())?;
+        if put_octets(alloc, escaped, &mut out).is_err()
+            || out.extend_from_slice(plain.as_bytes()).is_err()
+        {
+            return Err(Unread);
+        }
         digits = 2;
     }
     Ok(out)
 }
 
 fn put_octets(alloc: Global, digits: &str, out: &mut Vec<u8>) -> Result<(), Unread> {
-    let octets = hex::decode(alloc, digits)?;
-    Ok(out.extend_from_slice(octets.as_slice())?)
+    let Ok(octets) = hex::decode(alloc, digits) else {
+        return Err(Unread);
+    };
+    read(out.extend_from_slice(octets.as_slice()))
 }

@@ -1,6 +1,6 @@
 //! Scripts of a framer: words that feed it octets, or ask what is next or what is left.
-use crate::rows::octets;
-use crate::unread::Unread;
+use crate::rows::{LIMIT, octets, tells};
+use crate::unread::{Unread, read};
 use std::alloc::{AllocError, Global};
 use zber::{Body, Framer, Node};
 
@@ -32,11 +32,13 @@ fn put_finish(framer: &Framer, trace: &mut String) -> Result<(), AllocError> {
 // A word of a script: octets to feed, the question what is next, or the question what is left.
 fn step(alloc: Global, framer: &mut Framer, word: &str, trace: &mut String) -> Result<(), Unread> {
     match word {
-        "next" => Ok(put_next(framer, trace)?),
-        "finish" => Ok(put_finish(framer, trace)?),
+        "next" => read(put_next(framer, trace)),
+        "finish" => read(put_finish(framer, trace)),
         digits => {
-            let octets = octets(alloc, digits)?;
-            Ok(framer.feed(octets.as_slice())?)
+            let Ok(octets) = octets(alloc, digits) else {
+                return Err(Unread);
+            };
+            read(framer.feed(octets.as_slice()))
         }
     }
 }
@@ -48,7 +50,9 @@ fn play(
     trace: &mut String,
 ) -> Result<(), Unread> {
     for word in script.split_whitespace() {
-        step(alloc, framer, word, trace)?;
+        if step(alloc, framer, word, trace).is_err() {
+            return Err(Unread);
+        }
     }
     Ok(())
 }
@@ -57,6 +61,20 @@ fn play(
 pub fn answers(alloc: Global, limit: u32, script: &str) -> Result<String, Unread> {
     let mut trace = String::new(alloc);
     let mut framer = Framer::new(alloc, limit);
-    play(alloc, &mut framer, script, &mut trace)?;
+    if play(alloc, &mut framer, script, &mut trace).is_err() {
+        return Err(Unread);
+    }
     Ok(trace)
+}
+
+/// Whether a framer of the common limit answers in a script as it is due; not where there was no memory for either text.
+pub fn answers_as(
+    alloc: Global,
+    script: Result<String, AllocError>,
+    due: Result<String, AllocError>,
+) -> bool {
+    match (script, due) {
+        (Ok(script), Ok(due)) => tells(answers(alloc, LIMIT, script.as_str()), due.as_str()),
+        _ => false,
+    }
 }

@@ -20,13 +20,15 @@ pub fn string(alloc: Global, node: &Node) -> Result<String, AllocError> {
 pub fn bit_digits(alloc: Global, bits: &Bits, count: usize) -> Result<String, AllocError> {
     let mut text = String::new(alloc);
     for i in 0..count {
-        text.push(if bits.bit(i) { '1' } else { '0' })?;
+        if text.push(if bits.bit(i) { '1' } else { '0' }).is_err() {
+            return Err(AllocError);
+        }
     }
-    if count == 0 {
-        text.push('-')?;
+    if count == 0 && text.push('-').is_err() {
+        return Err(AllocError);
     }
-    if bits.bit(bits.len()) {
-        text.push('+')?;
+    if bits.bit(bits.len()) && text.push('+').is_err() {
+        return Err(AllocError);
     }
     Ok(text)
 }

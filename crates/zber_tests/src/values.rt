@@ -1,12 +1,12 @@
 // Values in contents octets, worked out from X.690, 8.2, 8.3, 8.6 to 8.8 and 8.19.
 use crate::rows::{digits, each_row, octets, pair, tells};
 use crate::shown::{bit_digits, refusal, string};
-use crate::unread::Unread;
+use crate::unread::{self, Unread};
 use bytes::Bytes;
 use std::alloc::{AllocError, Global};
 use std::process::Abort;
 use std::test::Fail;
-use zber::{Bits, Body, Node, Oid, OidError, Tag};
+use zber::{Bits, Body, Node, Oid, Tag};
 
 // Types, contents and values: integers next to each power of 256 and its half, the first bits of 10111011 10111011 1.
 const VALUES: &str = "\
@@ -119,8 +119,12 @@ fn node_of(alloc: Global, digits: &str) -> Result<Node, Unread> {
     if digits == "()" {
         return Ok(Node::cons(Tag::context(1), Vec::new(alloc)));
     }
-    let octets = octets(alloc, digits)?;
-    let contents = Bytes::from_vec(octets)?;
+    let Ok(octets) = octets(alloc, digits) else {
+        return Err(Unread);
+    };
+    let Ok(contents) = Bytes::from_vec(octets) else {
+        return Err(Unread);
+    };
     let tag = Tag::context(1);
     Ok(Node::prim(tag, contents))
 }
@@ -128,7 +132,7 @@ fn node_of(alloc: Global, digits: &str) -> Result<Node, Unread> {
 // The contents of a primitive element.
 fn contents(alloc: Global, node: &Node) -> Result<String, Unread> {
     match &node.body {
-        Body::Prim(octets) => Ok(digits(alloc, octets.as_slice())?),
+        Body::Prim(octets) => unread::read(digits(alloc, octets.as_slice())),
         Body::Cons(_) => Err(Unread),
     }
 }
@@ -183,59 +187,78 @@ fn read(alloc: Global, kind: &str, node: &Node) -> Result<String, AllocError> {
 fn is_read(alloc: Global, row: &str) -> Result<bool, Unread> {
     let (kind, rest) = pair(row);
     let (digits, value) = pair(rest);
-    let node = node_of(alloc, digits)?;
+    let Ok(node) = node_of(alloc, digits) else {
+        return Err(Unread);
+    };
     Ok(tells(read(alloc, kind, &node), value))
 }
 
 #[test]
 fn values_are_read(rt: HostRuntime) -> Result<(), Fail> {
-    each_row(rt.alloc(), VALUES, &is_read)
+    each_row(rt.alloc(), VALUES, is_read)
 }
 
 #[test]
 fn other_contents_are_read_or_refused(rt: HostRuntime) -> Result<(), Fail> {
-    each_row(rt.alloc(), READ, &is_read)
+    each_row(rt.alloc(), READ, is_read)
 }
 
 // The bits that digits say, through a slice and a copy.
 fn bits_of(alloc: Global, text: &str) -> Result<Bits, AllocError> {
     let mut bits = Vec::new(alloc);
     for octet in text.bytes() {
-        if octet != b'-' {
-            bits.push(octet == b'1')?;
+        if octet != b'-' && bits.push(octet == b'1').is_err() {
+            return Err(AllocError);
         }
     }
     let first = Bits::from_vec(bits);
-    let second = Bits::from_slice(alloc, first.as_slice())?;
+    let Ok(second) = Bits::from_slice(alloc, first.as_slice()) else {
+        return Err(AllocError);
+    };
     second.copy(alloc)
 }
 
 fn write_bits(alloc: Global, value: &str) -> Result<Node, AllocError> {
-    let bits = bits_of(alloc, value)?;
+    let Ok(bits) = bits_of(alloc, value) else {
+        return Err(AllocError);
+    };
     Node::of_bits(alloc, Tag::context(1), &bits)
 }
 
 fn write_integer(alloc: Global, value: &str) -> Result<Node, Unread> {
     let tag = Tag::context(1);
-    let number = value.parse::<i64>()?;
-    Ok(Node::of_int(alloc, tag, number)?)
+    let Ok(number) = value.parse::<i64>() else {
+        return Err(Unread);
+    };
+    unread::read(Node::of_int(alloc, tag, number))
 }
 
 fn write_octets(alloc: Global, value: &str) -> Result<Node, Unread> {
-    let octets = Bytes::from_vec(octets(alloc, value)?)?;
-    Ok(Node::of_octets(alloc, Tag::context(1), &octets)?)
+    let Ok(octets) = octets(alloc, value) else {
+        return Err(Unread);
+    };
+    let Ok(octets) = Bytes::from_vec(octets) else {
+        return Err(Unread);
+    };
+    unread::read(Node::of_octets(alloc, Tag::context(1), &octets))
 }
 
 // The identifier of a text, through its arcs and a copy.
-fn identifier_of(alloc: Global, text: &str) -> Result<Oid, OidError> {
-    let oid = Oid::parse_dotted(alloc, text.as_bytes())?;
-    let same = Oid::from_arcs(alloc, oid.arcs())?;
-    same.copy(alloc).map_err(|_| OidError::Memory)
+fn identifier_of(alloc: Global, text: &str) -> Result<Oid, Unread> {
+    let Ok(oid) = Oid::parse_dotted(alloc, text.as_bytes()) else {
+        return Err(Unread);
+    };
+    let Ok(same) = Oid::from_arcs(alloc, oid.arcs()) else {
+        return Err(Unread);
+    };
+    unread::read(same.copy(alloc))
 }
 
 fn write_oid(alloc: Global, value: &str) -> Result<Node, Unread> {
-    let oid = identifier_of(alloc, value)?;
-    Ok(Node::of_oid(alloc, Tag::context(1), &oid)?)
+    let Ok(oid) = identifier_of(alloc, value) else {
+        return Err(Unread);
+    };
+    unread::read(Node::of_oid(alloc, Tag::context(1), &oid))
 }
 
 // The element of a value.
@@ -246,20 +269,22 @@ fn write_value(alloc: Global, kind: &str, value: &str) -> Result<Node, Unread> {
         "null" => Ok(Node::of_null(Tag::context(1))),
         "octets" => write_octets(alloc, value),
         "oid" => write_oid(alloc, value),
-        _ => Ok(write_bits(alloc, value)?),
+        _ => unread::read(write_bits(alloc, value)),
     }
 }
 
 fn is_written(alloc: Global, row: &str) -> Result<bool, Unread> {
     let (kind, rest) = pair(row);
     let (digits, value) = pair(rest);
-    let node = write_value(alloc, kind, value)?;
+    let Ok(node) = write_value(alloc, kind, value) else {
+        return Err(Unread);
+    };
     Ok(tells(contents(alloc, &node), digits))
 }
 
 #[test]
 fn values_are_written(rt: HostRuntime) -> Result<(), Fail> {
-    each_row(rt.alloc(), VALUES, &is_written)
+    each_row(rt.alloc(), VALUES, is_written)
 }
 
 // Contents, and the first 20 bits that they say.
@@ -270,11 +295,16 @@ const FIRST: &str = "\
 
 fn are_first(alloc: Global, row: &str) -> Result<bool, Unread> {
     let (digits, due) = pair(row);
-    let bits = node_of(alloc, digits)?.as_bits(alloc)?;
+    let Ok(node) = node_of(alloc, digits) else {
+        return Err(Unread);
+    };
+    let Ok(bits) = node.as_bits(alloc) else {
+        return Err(Unread);
+    };
     Ok(tells(bit_digits(alloc, &bits, 20), due))
 }
 
 #[test]
 fn bits_past_the_end_are_not_set(rt: HostRuntime) -> Result<(), Fail> {
-    each_row(rt.alloc(), FIRST, &are_first)
+    each_row(rt.alloc(), FIRST, are_first)
 }

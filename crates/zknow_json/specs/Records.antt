@@ -70,6 +70,7 @@ conflict_line names k records =
     line (object (row_head (codes "conflict") names k
     ++ array_member (codes "records") (flat_map record_object records)))
 
+-- the line of the records at one position: none without a record, and a conflict where there are several
 abbrev pub records_line : List (List ℕ) → RowKey → List Record → List ℕ
 records_line names k [] = []
 records_line names k (r ∷ []) = record_line names k r

@@ -7,7 +7,5 @@ mod line;
 mod lines;
 mod records;
 mod sets;
-#[cfg(test)]
-mod tests;
 
 pub use lines::print_json;

@@ -23,6 +23,7 @@ is_in_syntax None direct = true
 is_in_syntax (Some asked) None = true
 is_in_syntax (Some asked) (Some direct) = bytes_eq asked direct
 
+-- the content is not of another syntax than the one asked for: diagnostics and fragments never are
 abbrev pub is_body_wanted : Option (List ℕ) → RecordBody → Bool
 is_body_wanted asked (Retrieval v) = is_in_syntax asked v.direct
 is_body_wanted asked (Surrogate d) = true
@@ -36,6 +37,7 @@ is_wanted asked r = is_body_wanted asked r.body
 abbrev pub is_unwanted : Option (List ℕ) → Record → Bool
 is_unwanted asked r = not (is_wanted asked r)
 
+-- the octets of an EXTERNAL that has a syntax and octets, and no more; of anything else none
 abbrev pub body_octets : RecordBody → Option (List ℕ)
 body_octets (Retrieval v) = option_map (λ p. p.1) (octets_alone v.direct v.indirect v.descriptor v.content)
 body_octets (Surrogate d) = None
@@ -49,6 +51,7 @@ own_octets r = body_octets r.body
 abbrev pub record_octets : Record → List ℕ
 record_octets r = unwrap_or (own_octets r) []
 
+-- a diagnostic stands in place of the record (Z39.50-2003, 4.1: surrogateDiagnostic)
 abbrev pub is_surrogate : RecordBody → Bool
 is_surrogate (Retrieval v) = false
 is_surrogate (Surrogate d) = true

@@ -47,7 +47,7 @@ fn has_rows(alloc: Global, row: &str) -> Result<bool, Unread> {
 
 #[test]
 fn positions_of_records_are_rows(rt: HostRuntime) -> Result<(), Fail> {
-    each_row(rt.alloc(), ROWS, &has_rows)
+    each_row(rt.alloc(), ROWS, has_rows)
 }
 
 // A value with one item.
@@ -110,7 +110,7 @@ fn is_joined(alloc: Global, row: &str) -> Result<bool, Unread> {
 
 #[test]
 fn values_of_the_trait_are_joined(rt: HostRuntime) -> Result<(), Fail> {
-    each_row(rt.alloc(), JOINED, &is_joined)
+    each_row(rt.alloc(), JOINED, is_joined)
 }
 
 // A syntax or a dash, whether conflicts are written, and facts. Then counts: conflicts, records of other syntaxes,
@@ -179,5 +179,5 @@ fn is_written(alloc: Global, row: &str) -> Result<bool, Unread> {
 
 #[test]
 fn octets_of_records_are_written(rt: HostRuntime) -> Result<(), Fail> {
-    each_row(rt.alloc(), WRITTEN, &is_written)
+    each_row(rt.alloc(), WRITTEN, is_written)
 }

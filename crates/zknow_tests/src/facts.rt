@@ -11,7 +11,7 @@ use zapdu_tests::boxes::box_value;
 use zapdu_tests::parts::Line;
 use zber::Node;
 use zber_tests::rows::{element, pair};
-use zber_tests::unread::Unread;
+use zber_tests::unread::{Unread, read};
 use zknow::{Fact, Knowledge};
 
 // The element that a word names: digits; or of two octets, a record of them in the syntax 1.2.840.10003.5.10 with the
@@ -29,37 +29,47 @@ fn digits_of(alloc: Global, word: &str) -> Result<String, AllocError> {
 }
 
 fn node_of(alloc: Global, word: &str) -> Result<Node, Unread> {
-    let digits = digits_of(alloc, word)?;
+    let Ok(digits) = digits_of(alloc, word) else {
+        return Err(Unread);
+    };
     element(alloc, digits.as_str())
 }
 
 fn record_in(alloc: Global, node: &Node) -> Result<Record, Unread>
     ensures { IfOk result (IsSpellable whole_record) }
 {
-    match record_of(alloc, node)? {
-        Some(record) => Ok(record),
-        None => Err(Unread),
+    match record_of(alloc, node) {
+        Ok(Some(record)) => Ok(record),
+        _ => Err(Unread),
     }
 }
 
 fn record(alloc: Global, word: &str) -> Result<Record, Unread>
     ensures { IfOk result (IsSpellable whole_record) }
 {
-    let node = node_of(alloc, word)?;
+    let Ok(node) = node_of(alloc, word) else {
+        return Err(Unread);
+    };
     record_in(alloc, &node)
 }
 
 fn diag(alloc: Global, digits: &str) -> Result<DiagRec, Unread> {
-    let node = element(alloc, digits)?;
-    let diag = diag_of(alloc, &node)?.ok_or(Unread)?;
-    Ok(diag)
+    let Ok(node) = element(alloc, digits) else {
+        return Err(Unread);
+    };
+    match diag_of(alloc, &node) {
+        Ok(Some(diag)) => Ok(diag),
+        _ => Err(Unread),
+    }
 }
 
 // A number that is not below the least one.
 fn number(text: &str, least: i64) -> Result<i64, Unread>
     ensures { IfOk result (λ n. least ≤ℤ n) }
 {
-    let number = text.parse::<i64>()?;
+    let Ok(number) = text.parse::<i64>() else {
+        return Err(Unread);
+    };
     if number < least {
         Err(Unread)
     } else {
@@ -70,7 +80,9 @@ fn number(text: &str, least: i64) -> Result<i64, Unread>
 fn count_of(target: u32, set: u32, rest: &str) -> Result<Fact, Unread>
     ensures { IfOk result IsFact }
 {
-    let count = number(rest, 0)?;
+    let Ok(count) = number(rest, 0) else {
+        return Err(Unread);
+    };
     Ok(Fact::Count { target, set, count })
 }
 
@@ -78,8 +90,12 @@ fn seen_of(alloc: Global, target: u32, set: u32, rest: &str) -> Result<Fact, Unr
     ensures { IfOk result IsFact }
 {
     let (position, word) = pair(rest);
-    let position = number(position, 1)?;
-    let rec = record(alloc, word)?;
+    let Ok(position) = number(position, 1) else {
+        return Err(Unread);
+    };
+    let Ok(rec) = record(alloc, word) else {
+        return Err(Unread);
+    };
     Ok(Fact::Seen {
         target,
         set,
@@ -92,8 +108,12 @@ fn diag_fact(alloc: Global, target: u32, set: u32, rest: &str) -> Result<Fact, U
     ensures { IfOk result IsFact }
 {
     let (place, word) = pair(rest);
-    let place = number(place, 0)?;
-    let diag = diag(alloc, word)?;
+    let Ok(place) = number(place, 0) else {
+        return Err(Unread);
+    };
+    let Ok(diag) = diag(alloc, word) else {
+        return Err(Unread);
+    };
     Ok(Fact::Diag {
         target,
         set,
@@ -122,24 +142,25 @@ pub(crate) fn fact(alloc: Global, row: &str) -> Result<Fact, Unread>
     let (kind, rest) = pair(row);
     let (target, rest) = pair(rest);
     let (set, rest) = pair(rest);
-    about(
-        alloc,
-        kind,
-        target.parse::<u32>()?,
-        set.parse::<u32>()?,
-        rest,
-    )
+    match (target.parse::<u32>(), set.parse::<u32>()) {
+        (Ok(target), Ok(set)) => about(alloc, kind, target, set, rest),
+        _ => Err(Unread),
+    }
 }
 
 /// Adds the fact of a row.
 pub(crate) fn add(alloc: Global, knowledge: &mut Knowledge, row: &str) -> Result<(), Unread> {
-    let fact = fact(alloc, row)?;
-    Ok(knowledge.add(&fact)?)
+    let Ok(fact) = fact(alloc, row) else {
+        return Err(Unread);
+    };
+    read(knowledge.add(&fact))
 }
 
 fn add_all(alloc: Global, knowledge: &mut Knowledge, rows: &str) -> Result<(), Unread> {
     for row in rows.lines() {
-        add(alloc, knowledge, row)?;
+        if add(alloc, knowledge, row).is_err() {
+            return Err(Unread);
+        }
     }
     Ok(())
 }
@@ -151,20 +172,28 @@ pub(crate) fn nothing(alloc: Global) -> Result<Box<Knowledge>, AllocError> {
 
 /// A copy of what is known.
 pub(crate) fn copy_of(alloc: Global, knowledge: &Knowledge) -> Result<Box<Knowledge>, AllocError> {
-    let copy = knowledge.copy()?;
-    box_value(alloc, copy)
+    match knowledge.copy() {
+        Ok(copy) => box_value(alloc, copy),
+        Err(_) => Err(AllocError),
+    }
 }
 
 /// The knowledge of all facts of a table.
 pub(crate) fn knowledge_of(alloc: Global, rows: &str) -> Result<Box<Knowledge>, Unread> {
-    let mut knowledge = nothing(alloc)?;
-    add_all(alloc, &mut knowledge, rows)?;
-    Ok(knowledge)
+    let Ok(mut knowledge) = nothing(alloc) else {
+        return Err(Unread);
+    };
+    match add_all(alloc, &mut knowledge, rows) {
+        Ok(()) => Ok(knowledge),
+        Err(error) => Err(error),
+    }
 }
 
 /// Whether these are all facts, in fact order, with a space before each.
 pub(crate) fn has_facts(alloc: Global, knowledge: &Knowledge, due: &str) -> Result<bool, Unread> {
-    let facts = knowledge.facts()?;
+    let Ok(facts) = knowledge.facts() else {
+        return Err(Unread);
+    };
     let mut line = Line::new(alloc);
     put_facts(alloc, facts.as_slice(), &mut line);
     Ok(line.is(due.as_bytes()))

@@ -37,14 +37,17 @@ const CONFLICT: &str = r#"target "a" set 1 count 4
 
 // The order of so many rows that has this number among all their orders, as the places of the rows.
 fn order(alloc: Global, count: usize, number: usize) -> Result<Vec<usize>, AllocError> {
-    let mut left: Vec<usize> = (0..count).collect(alloc)?;
+    let left: Result<Vec<usize>, AllocError> = (0..count).collect(alloc);
+    let Ok(mut left) = left else {
+        return Err(AllocError);
+    };
     let mut order = Vec::new(alloc);
     let mut number = number;
     for _ in 0..count {
         let at = number.checked_rem(left.len()).unwrap_or(0);
         number = number.checked_div(left.len()).unwrap_or(0);
-        if at < left.len() {
-            order.push(left.remove(at))?;
+        if at < left.len() && order.push(left.remove(at)).is_err() {
+            return Err(AllocError);
         }
     }
     Ok(order)
@@ -69,7 +72,9 @@ pub(crate) fn add_in_order(
     places: &[usize],
 ) -> Result<(), Unread> {
     for place in places {
-        add_at(alloc, knowledge, rows, *place)?;
+        if add_at(alloc, knowledge, rows, *place).is_err() {
+            return Err(Unread);
+        }
     }
     Ok(())
 }
@@ -87,31 +92,30 @@ fn note_at(
 }
 
 // Whether the reference has the list.
-fn is_noted(alloc: Global, rows: &[&str], places: &[usize], due: &str) -> Result<bool, Unread> {
+fn is_noted(alloc: Global, rows: &[&str], places: &[usize], due: &str) -> bool {
     let mut facts = Vec::new(alloc);
     for place in places {
-        note_at(alloc, &mut facts, rows, *place)?;
+        if note_at(alloc, &mut facts, rows, *place).is_err() {
+            return false;
+        }
     }
-    Ok(spells(list(alloc, &["a"], facts.as_slice()), due.as_bytes()))
+    spells(list(alloc, &["a"], facts.as_slice()), due.as_bytes())
 }
 
-fn is_list_of(alloc: Global, rows: &[&str], places: &[usize], due: &str) -> Result<bool, Unread> {
-    let mut knowledge = nothing(alloc)?;
-    add_in_order(alloc, &mut knowledge, rows, places)?;
-    Ok(
-        is_listed(alloc, &knowledge, "a", Mode::Text, due)
-            && is_true(is_noted(alloc, rows, places, due)),
-    )
+fn is_list_of(alloc: Global, rows: &[&str], places: &[usize], due: &str) -> bool {
+    let Ok(mut knowledge) = nothing(alloc) else {
+        return false;
+    };
+    add_in_order(alloc, &mut knowledge, rows, places).is_ok()
+        && is_listed(alloc, &knowledge, "a", Mode::Text, due)
+        && is_noted(alloc, rows, places, due)
 }
 
 // Whether rows have the list in the order of this number.
-fn is_list_in_order(
-    alloc: Global,
-    rows: &[&str],
-    number: usize,
-    due: &str,
-) -> Result<bool, Unread> {
-    let places = order(alloc, rows.len(), number)?;
+fn is_list_in_order(alloc: Global, rows: &[&str], number: usize, due: &str) -> bool {
+    let Ok(places) = order(alloc, rows.len(), number) else {
+        return false;
+    };
     is_list_of(alloc, rows, places.as_slice(), due)
 }
 
@@ -119,7 +123,7 @@ fn is_list_in_order(
 fn orders(alloc: Global, rows: &[&str], count: usize, due: &str) -> usize {
     let mut same = 0usize;
     for number in 0..count {
-        if is_true(is_list_in_order(alloc, rows, number, due)) {
+        if is_list_in_order(alloc, rows, number, due) {
             same = same.saturating_add(1);
         }
     }
@@ -128,9 +132,14 @@ fn orders(alloc: Global, rows: &[&str], count: usize, due: &str) -> usize {
 
 // In how many orders the seven facts of a search and two requests have the list.
 fn orders_of(alloc: Global, first: &str, second: &str, due: &str) -> Result<usize, Unread> {
-    let text = format!(in alloc; "{SEARCH}\n{first}\n{second}")?;
-    let rows: Vec<&str> = text.as_str().lines().collect(alloc)?;
-    Ok(orders(alloc, rows.as_slice(), 5040, due))
+    let Ok(text) = format!(in alloc; "{SEARCH}\n{first}\n{second}") else {
+        return Err(Unread);
+    };
+    let rows: Result<Vec<&str>, AllocError> = text.as_str().lines().collect(alloc);
+    match rows {
+        Ok(rows) => Ok(orders(alloc, rows.as_slice(), 5040, due)),
+        Err(_) => Err(Unread),
+    }
 }
 
 #[test]
@@ -146,58 +155,52 @@ fn records_that_differ_have_one_list_in_every_order(rt: HostRuntime) -> Result<(
 }
 
 // Whether a copy has the list.
-fn is_copied(alloc: Global, knowledge: &Knowledge, due: &str) -> Result<bool, Unread> {
-    let copy = copy_of(alloc, knowledge)?;
-    Ok(is_listed(alloc, &copy, "a", Mode::Text, due))
+fn is_copied(alloc: Global, knowledge: &Knowledge, due: &str) -> bool {
+    match copy_of(alloc, knowledge) {
+        Ok(copy) => is_listed(alloc, &copy, "a", Mode::Text, due),
+        Err(_) => false,
+    }
 }
 
 // Whether a knowledge has the list once it has absorbed another, and still once it has absorbed it again.
-fn absorbs(
-    alloc: Global,
-    knowledge: &mut Knowledge,
-    other: &Knowledge,
-    due: &str,
-) -> Result<bool, Unread> {
-    knowledge.absorb(other)?;
-    let once = is_true(is_copied(alloc, knowledge, due));
-    knowledge.absorb(other)?;
-    Ok(once && is_listed(alloc, knowledge, "a", Mode::Text, due))
+fn absorbs(alloc: Global, knowledge: &mut Knowledge, other: &Knowledge, due: &str) -> bool {
+    knowledge.absorb(other).is_ok()
+        && is_copied(alloc, knowledge, due)
+        && knowledge.absorb(other).is_ok()
+        && is_listed(alloc, knowledge, "a", Mode::Text, due)
 }
 
-fn absorbs_rows(
-    alloc: Global,
-    knowledge: &mut Knowledge,
-    rows: &str,
-    due: &str,
-) -> Result<bool, Unread> {
-    let other = knowledge_of(alloc, rows)?;
+fn absorbs_rows(alloc: Global, knowledge: &mut Knowledge, rows: &str, due: &str) -> bool {
+    let Ok(other) = knowledge_of(alloc, rows) else {
+        return false;
+    };
     absorbs(alloc, knowledge, &other, due)
 }
 
-fn is_joined(alloc: Global, first: &str, second: &str, due: &str) -> Result<bool, Unread> {
-    let mut knowledge = knowledge_of(alloc, first)?;
+fn is_joined(alloc: Global, first: &str, second: &str, due: &str) -> bool {
+    let Ok(mut knowledge) = knowledge_of(alloc, first) else {
+        return false;
+    };
     absorbs_rows(alloc, &mut knowledge, second, due)
 }
 
 // Whether the facts of a search and a request, and of it and another one, have the list, joined either way.
-fn is_joined_either_way(
-    alloc: Global,
-    first: &str,
-    second: &str,
-    due: &str,
-) -> Result<bool, Unread> {
-    let left = format!(in alloc; "{SEARCH}\n{first}")?;
-    let right = format!(in alloc; "{SEARCH}\n{second}")?;
-    Ok(
-        is_true(is_joined(alloc, left.as_str(), right.as_str(), due))
-            && is_true(is_joined(alloc, right.as_str(), left.as_str(), due)),
-    )
+fn is_joined_either_way(alloc: Global, first: &str, second: &str, due: &str) -> bool {
+    let left = format!(in alloc; "{SEARCH}\n{first}");
+    let right = format!(in alloc; "{SEARCH}\n{second}");
+    match (left, right) {
+        (Ok(left), Ok(right)) => {
+            is_joined(alloc, left.as_str(), right.as_str(), due)
+                && is_joined(alloc, right.as_str(), left.as_str(), due)
+        }
+        _ => false,
+    }
 }
 
 #[test]
 fn joined_either_way_the_list_is_the_same(rt: HostRuntime) -> Result<(), Fail> {
-    assert!(rt; is_true(is_joined_either_way(rt.alloc(), FIRST, SECOND, AGREED)));
-    assert!(rt; is_true(is_joined_either_way(rt.alloc(), FIRST, OTHER, CONFLICT)));
+    assert!(rt; is_joined_either_way(rt.alloc(), FIRST, SECOND, AGREED));
+    assert!(rt; is_joined_either_way(rt.alloc(), FIRST, OTHER, CONFLICT));
     Ok(())
 }
 
@@ -254,18 +257,26 @@ seen 0 1 4 r4;seen 0 1 2 r2;count 0 1 4;seen 0 1 3 r3;seen 0 1 2 ~r2;seen 0 1 1 
 // The count of a target's set.
 fn is_count_of(alloc: Global, knowledge: &Knowledge, row: &str, due: &str) -> Result<bool, Unread> {
     let (target, set) = pair(row);
-    let target = target.parse::<u32>()?;
-    let set = set.parse::<u32>()?;
+    let Ok(target) = target.parse::<u32>() else {
+        return Err(Unread);
+    };
+    let Ok(set) = set.parse::<u32>() else {
+        return Err(Unread);
+    };
     Ok(is_count(alloc, knowledge, target, set, due))
 }
 
 fn is_record(alloc: Global, knowledge: &Knowledge, row: &str, due: &str) -> Result<bool, Unread> {
-    let position = row.parse::<i64>()?;
+    let Ok(position) = row.parse::<i64>() else {
+        return Err(Unread);
+    };
     Ok(is_at(alloc, knowledge, position, due))
 }
 
 fn is_list(alloc: Global, knowledge: &Knowledge, names: &str, due: &str) -> Result<bool, Unread> {
-    let due = unescape(alloc, due)?;
+    let Ok(due) = unescape(alloc, due) else {
+        return Err(Unread);
+    };
     Ok(has_list(alloc, knowledge, names, Mode::Text, due.as_slice()))
 }
 
@@ -287,14 +298,18 @@ fn is_answer(
 fn is_answered(alloc: Global, row: &str) -> Result<bool, Unread> {
     let (facts, rest) = halves(row);
     let (question, due) = halves(rest);
-    let rows = facts.replace(alloc, ";", "\n")?;
-    let knowledge = knowledge_of(alloc, rows.as_str())?;
+    let Ok(rows) = facts.replace(alloc, ";", "\n") else {
+        return Err(Unread);
+    };
+    let Ok(knowledge) = knowledge_of(alloc, rows.as_str()) else {
+        return Err(Unread);
+    };
     is_answer(alloc, &knowledge, question, due)
 }
 
 #[test]
 fn questions_are_answered_as_told(rt: HostRuntime) -> Result<(), Fail> {
-    each_row(rt.alloc(), ANSWERS, &is_answered)
+    each_row(rt.alloc(), ANSWERS, is_answered)
 }
 
 // Facts of several targets and sets in no order: each kind of fact, of record and of diagnostic.
@@ -346,27 +361,23 @@ seen 0 1 1 3013a111a10f280d06072a8648ce13050a81020aff
 ";
 
 // Whether facts have the list.
-fn are_listed(
-    alloc: Global,
-    rows: &str,
-    names: &str,
-    mode: Mode,
-    due: &str,
-) -> Result<bool, Unread> {
-    let knowledge = knowledge_of(alloc, rows)?;
-    Ok(is_listed(alloc, &knowledge, names, mode, due))
+fn are_listed(alloc: Global, rows: &str, names: &str, mode: Mode, due: &str) -> bool {
+    let Ok(knowledge) = knowledge_of(alloc, rows) else {
+        return false;
+    };
+    is_listed(alloc, &knowledge, names, mode, due)
 }
 
 #[test]
 fn each_kind_of_fact_has_its_line(rt: HostRuntime) -> Result<(), Fail> {
-    assert!(rt; is_true(are_listed(rt.alloc(), MIXED, "a b%22%5c", Mode::Text, LINES)));
+    assert!(rt; are_listed(rt.alloc(), MIXED, "a b%22%5c", Mode::Text, LINES));
     Ok(())
 }
 
 #[test]
 fn octets_are_quoted_or_in_hexadecimal(rt: HostRuntime) -> Result<(), Fail> {
-    assert!(rt; is_true(are_listed(rt.alloc(), OCTETS, "a", Mode::Text, QUOTED)));
-    assert!(rt; is_true(are_listed(rt.alloc(), OCTETS, "a", Mode::Hex, DIGITS)));
+    assert!(rt; are_listed(rt.alloc(), OCTETS, "a", Mode::Text, QUOTED));
+    assert!(rt; are_listed(rt.alloc(), OCTETS, "a", Mode::Hex, DIGITS));
     Ok(())
 }
 
@@ -374,13 +385,15 @@ fn octets_are_quoted_or_in_hexadecimal(rt: HostRuntime) -> Result<(), Fail> {
 const SORTED: &str =
     " count 0 1 7 count 0 2 3 failed 0 1 failed 2 0 seen 0 1 1 3013a111a10f280d06072a8648ce13050a81020aff seen 0 1 2 300ca10aa1082806020105810161 seen 0 1 3 3016800164a111a10f280d06072a8648ce13050a8102225c seen 0 2 1 301a800164a115a213301106072a8648ce130401020200ee1b02225c seen 1 1 1 3005a103830161 seen 2 1 3 3014800164a10fa10d280b06072a8648ce13050a8100 diag 0 1 0 28048102686a diag 0 1 0 301006072a8648ce13040102010e1a026869 diag 0 1 4 301006072a8648ce13040102010d1b026869 diag 1 1 0 300e06072a8648ce13040102010d1a00";
 
-fn are_facts(alloc: Global, rows: &str, due: &str) -> Result<bool, Unread> {
-    let knowledge = knowledge_of(alloc, rows)?;
-    has_facts(alloc, &knowledge, due)
+fn are_facts(alloc: Global, rows: &str, due: &str) -> bool {
+    let Ok(knowledge) = knowledge_of(alloc, rows) else {
+        return false;
+    };
+    is_true(has_facts(alloc, &knowledge, due))
 }
 
 #[test]
 fn facts_of_all_kinds_stand_in_order(rt: HostRuntime) -> Result<(), Fail> {
-    assert!(rt; is_true(are_facts(rt.alloc(), MIXED, SORTED)));
+    assert!(rt; are_facts(rt.alloc(), MIXED, SORTED));
     Ok(())
 }

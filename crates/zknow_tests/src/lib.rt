@@ -1,4 +1,5 @@
-//! What is known, told by rows of facts and saved files.
+//! What is known, told by rows of facts and saved files; its views for readers and in JSON, and the lines of records in
+//! MARC.
 #![tactic(auto)]
 
 #[cfg(test)]
@@ -6,7 +7,11 @@ mod calls;
 #[cfg(test)]
 mod facts;
 #[cfg(test)]
+mod json;
+#[cfg(test)]
 mod known;
+#[cfg(test)]
+mod marc;
 #[cfg(test)]
 mod reference;
 #[cfg(test)]
@@ -14,3 +19,5 @@ mod saved;
 pub mod shown;
 #[cfg(test)]
 mod shuffled;
+#[cfg(test)]
+mod titles;

@@ -16,13 +16,17 @@ pub(crate) struct Noted {
 }
 
 fn record_digits(alloc: Global, record: &Record) -> Result<String, Unread> {
-    let node = read(record_node(alloc, record))?;
-    Ok(encoding(alloc, &node)?)
+    let Ok(node) = record_node(alloc, record) else {
+        return Err(Unread);
+    };
+    read(encoding(alloc, &node))
 }
 
 fn diag_digits(alloc: Global, diag: &DiagRec) -> Result<String, Unread> {
-    let node = read(diag_node(alloc, diag))?;
-    Ok(encoding(alloc, &node)?)
+    let Ok(node) = diag_node(alloc, diag) else {
+        return Err(Unread);
+    };
+    read(encoding(alloc, &node))
 }
 
 // The text of a kind of fact, its target, set and number, and the digits of its element.
@@ -33,9 +37,11 @@ fn key(
     number: i64,
     digits: Result<String, Unread>,
 ) -> Result<String, Unread> {
-    let digits = digits?;
+    let Ok(digits) = digits else {
+        return Err(Unread);
+    };
     let (target, set) = set;
-    Ok(format!(in alloc; "{kind} {target:010} {set:010} {number:020} {digits}")?)
+    read(format!(in alloc; "{kind} {target:010} {set:010} {number:020} {digits}"))
 }
 
 fn order_of(alloc: Global, fact: &Fact) -> Result<String, Unread> {
@@ -76,9 +82,15 @@ fn place(facts: &[Noted], order: &str) -> usize {
 }
 
 fn noted_of(alloc: Global, row: &str) -> Result<Noted, Unread> {
-    let fact = fact(alloc, row)?;
-    let order = order_of(alloc, &fact)?;
-    let fact = box_value(alloc, fact)?;
+    let Ok(fact) = fact(alloc, row) else {
+        return Err(Unread);
+    };
+    let Ok(order) = order_of(alloc, &fact) else {
+        return Err(Unread);
+    };
+    let Ok(fact) = box_value(alloc, fact) else {
+        return Err(Unread);
+    };
     Ok(Noted { order, fact })
 }
 
@@ -99,7 +111,9 @@ fn put_in(facts: &mut Vec<Noted>, noted: Noted) -> Result<(), Unread> {
 
 /// Adds the fact of a row in its place, where it is not there.
 pub(crate) fn note(alloc: Global, facts: &mut Vec<Noted>, row: &str) -> Result<(), Unread> {
-    let noted = noted_of(alloc, row)?;
+    let Ok(noted) = noted_of(alloc, row) else {
+        return Err(Unread);
+    };
     put_in(facts, noted)
 }
 
@@ -107,7 +121,9 @@ pub(crate) fn note(alloc: Global, facts: &mut Vec<Noted>, row: &str) -> Result<(
 pub(crate) fn facts_of(alloc: Global, rows: &[&str]) -> Result<Vec<Noted>, Unread> {
     let mut facts = Vec::new(alloc);
     for row in rows {
-        note(alloc, &mut facts, row)?;
+        if note(alloc, &mut facts, row).is_err() {
+            return Err(Unread);
+        }
     }
     Ok(facts)
 }
@@ -136,11 +152,16 @@ fn row_of(fact: &Fact) -> Option<((i64, u32, u32), &Record)> {
 }
 
 fn blocks(alloc: Global, facts: &[Noted]) -> Result<Vec<(u32, u32)>, AllocError> {
-    let mut keys: Vec<(u32, u32)> = facts
+    let keys: Result<Vec<(u32, u32)>, AllocError> = facts
         .iter()
         .filter_map(|noted| block_of(&noted.fact))
-        .collect(alloc)?;
-    keys.sort()?;
+        .collect(alloc);
+    let Ok(mut keys) = keys else {
+        return Err(AllocError);
+    };
+    if keys.sort().is_err() {
+        return Err(AllocError);
+    }
     keys.dedup();
     Ok(keys)
 }
@@ -148,19 +169,25 @@ fn blocks(alloc: Global, facts: &[Noted]) -> Result<Vec<(u32, u32)>, AllocError>
 fn rows(alloc: Global, facts: &[Noted]) -> Result<Vec<(i64, u32, u32)>, AllocError> {
     let mut keys = Vec::new(alloc);
     for noted in facts {
-        if let Some((key, _)) = row_of(&noted.fact) {
-            keys.push(key)?;
+        if let Some((key, _)) = row_of(&noted.fact)
+            && keys.push(key).is_err()
+        {
+            return Err(AllocError);
         }
     }
-    keys.sort()?;
+    if keys.sort().is_err() {
+        return Err(AllocError);
+    }
     keys.dedup();
     Ok(keys)
 }
 
 fn name(alloc: Global, text: &str) -> Result<Vec<u8>, AllocError> {
     let mut out = Vec::new(alloc);
-    quote(alloc, text.as_bytes(), &mut out)?;
-    Ok(out)
+    match quote(alloc, text.as_bytes(), &mut out) {
+        Ok(()) => Ok(out),
+        Err(_) => Err(AllocError),
+    }
 }
 
 // The name, or # and the number of a target that has none.
@@ -173,14 +200,18 @@ fn put_name(alloc: Global, names: &[&str], target: u32, out: &mut Line) {
 
 fn diag_text(alloc: Global, diag: &DiagRec) -> Result<Vec<u8>, AllocError> {
     let mut out = Vec::new(alloc);
-    print_diag(alloc, diag, &mut out)?;
-    Ok(out)
+    match print_diag(alloc, diag, &mut out) {
+        Ok(()) => Ok(out),
+        Err(_) => Err(AllocError),
+    }
 }
 
 fn record_text(alloc: Global, record: &Record) -> Result<Vec<u8>, AllocError> {
     let mut out = Vec::new(alloc);
-    print_record(alloc, record, false, &mut out)?;
-    Ok(out)
+    match print_record(alloc, record, false, &mut out) {
+        Ok(()) => Ok(out),
+        Err(_) => Err(AllocError),
+    }
 }
 
 // The line of a fact of a set, behind the set.
@@ -257,16 +288,29 @@ fn put_row(alloc: Global, names: &[&str], facts: &[Noted], key: (i64, u32, u32),
     }
 }
 
-/// The list of these facts.
-pub(crate) fn list(alloc: Global, names: &[&str], facts: &[Noted]) -> Result<Vec<u8>, Unread> {
-    let blocks = blocks(alloc, facts)?;
-    let rows = rows(alloc, facts)?;
+fn list_in(
+    alloc: Global,
+    names: &[&str],
+    facts: &[Noted],
+    blocks: &[(u32, u32)],
+    rows: &[(i64, u32, u32)],
+) -> Result<Vec<u8>, Unread> {
     let mut line = Line::new(alloc);
-    for key in blocks.iter() {
+    for key in blocks {
         put_block(alloc, names, facts, *key, &mut line);
     }
-    for key in rows.iter() {
+    for key in rows {
         put_row(alloc, names, facts, *key, &mut line);
     }
     line.whole()
+}
+
+/// The list of these facts.
+pub(crate) fn list(alloc: Global, names: &[&str], facts: &[Noted]) -> Result<Vec<u8>, Unread> {
+    match (blocks(alloc, facts), rows(alloc, facts)) {
+        (Ok(blocks), Ok(rows)) => {
+            list_in(alloc, names, facts, blocks.as_slice(), rows.as_slice())
+        }
+        _ => Err(Unread),
+    }
 }

@@ -6,14 +6,16 @@ use std::process::Abort;
 use std::test::Fail;
 use zapdu_tests::boxes::box_value;
 use zber::Seq;
-use zber_tests::rows::{each_row, is_true, octets, pair, spells};
-use zber_tests::unread::{Unread, read};
+use zber_tests::rows::{each_row, octets, pair, spells};
+use zber_tests::unread::Unread;
 use zknow::{Knowledge, LoadError, Names, SaveError, load, save};
 
 fn save_octets(alloc: Global, knowledge: &Knowledge, names: &Names) -> Result<Vec<u8>, Unread> {
     let mut out = Vec::new(alloc);
-    read(save(alloc, knowledge, names, &mut out))?;
-    Ok(out)
+    match save(alloc, knowledge, names, &mut out) {
+        Ok(()) => Ok(out),
+        Err(_) => Err(Unread),
+    }
 }
 
 // Files: nothing known; a name, and two; a count; the highest target; two counts of a set; a failure; a record; a
@@ -33,9 +35,9 @@ a403800161a21e8001008101018201013013a111a10f280d06072a8648ce13050a81027232a21f80
 ";
 
 // What a file says, or why it says nothing.
-type Loaded = Result<(Knowledge, Names), LoadError>;
+pub(crate) type Loaded = Result<(Knowledge, Names), LoadError>;
 
-fn load_octets(alloc: Global, file: &[u8]) -> Result<Box<Loaded>, AllocError> {
+pub(crate) fn load_octets(alloc: Global, file: &[u8]) -> Result<Box<Loaded>, AllocError> {
     box_value(alloc, load(alloc, file))
 }
 
@@ -48,14 +50,18 @@ fn is_written(alloc: Global, loaded: &Loaded, file: &[u8]) -> bool {
 }
 
 fn is_file(alloc: Global, row: &str) -> Result<bool, Unread> {
-    let file = octets(alloc, row)?;
-    let loaded = load_octets(alloc, file.as_slice())?;
+    let Ok(file) = octets(alloc, row) else {
+        return Err(Unread);
+    };
+    let Ok(loaded) = load_octets(alloc, file.as_slice()) else {
+        return Err(Unread);
+    };
     Ok(is_written(alloc, &loaded, file.as_slice()))
 }
 
 #[test]
 fn files_are_read_and_written_alike(rt: HostRuntime) -> Result<(), Fail> {
-    each_row(rt.alloc(), FILES, &is_file)
+    each_row(rt.alloc(), FILES, is_file)
 }
 
 // Places and files: nothing at all; an end mark; half a header; another element; a fact in the place of names; a name
@@ -110,31 +116,39 @@ fn is_for(loaded: &Loaded, due: LoadError) -> bool {
 
 // Whether a file is refused for this.
 fn is_refused(alloc: Global, file: &str, due: LoadError) -> Result<bool, Unread> {
-    let file = octets(alloc, file)?;
-    let loaded = load_octets(alloc, file.as_slice())?;
+    let Ok(file) = octets(alloc, file) else {
+        return Err(Unread);
+    };
+    let Ok(loaded) = load_octets(alloc, file.as_slice()) else {
+        return Err(Unread);
+    };
     Ok(is_for(&loaded, due))
 }
 
 fn is_no_knowledge(alloc: Global, row: &str) -> Result<bool, Unread> {
     let (at, file) = pair(row);
-    let at = at.parse::<usize>()?;
+    let Ok(at) = at.parse::<usize>() else {
+        return Err(Unread);
+    };
     is_refused(alloc, file, LoadError::NotKnowledge { at })
 }
 
 #[test]
 fn what_is_no_knowledge_is_refused(rt: HostRuntime) -> Result<(), Fail> {
-    each_row(rt.alloc(), NOT_KNOWLEDGE, &is_no_knowledge)
+    each_row(rt.alloc(), NOT_KNOWLEDGE, is_no_knowledge)
 }
 
 fn is_not_canonical(alloc: Global, row: &str) -> Result<bool, Unread> {
     let (at, file) = pair(row);
-    let at = at.parse::<usize>()?;
+    let Ok(at) = at.parse::<usize>() else {
+        return Err(Unread);
+    };
     is_refused(alloc, file, LoadError::NotCanonical { at })
 }
 
 #[test]
 fn what_is_not_canonical_is_refused(rt: HostRuntime) -> Result<(), Fail> {
-    each_row(rt.alloc(), NOT_CANONICAL, &is_not_canonical)
+    each_row(rt.alloc(), NOT_CANONICAL, is_not_canonical)
 }
 
 // A file with two names and a fact of each kind.
@@ -146,7 +160,7 @@ a21e8001008101018201013013a111a10f280d06072a8648ce13050a81027231\
 a319800101810100820100300e06072a8648ce13040102010d1a00";
 
 /// What came of files: those that are written as they were, those of each refusal, and the sum of their places.
-#[derive(Clone, Copy, Debug, PartialEq, Eq)]
+#[derive(Clone, Copy, PartialEq)]
 struct Tally {
     files: u32,
     not_knowledge: u32,
@@ -184,7 +198,9 @@ impl Tally {
     fn put_loaded(&mut self, alloc: Global, loaded: &Loaded, file: &[u8]) -> Result<(), Unread> {
         match loaded {
             Ok((knowledge, names)) => {
-                let saved = save_octets(alloc, knowledge, names)?;
+                let Ok(saved) = save_octets(alloc, knowledge, names) else {
+                    return Err(Unread);
+                };
                 self.put_file(saved.as_slice(), file);
                 Ok(())
             }
@@ -193,27 +209,33 @@ impl Tally {
     }
 
     fn put(&mut self, alloc: Global, file: &[u8]) -> Result<(), Unread> {
-        let loaded = load_octets(alloc, file)?;
+        let Ok(loaded) = load_octets(alloc, file) else {
+            return Err(Unread);
+        };
         self.put_loaded(alloc, &loaded, file)
     }
 }
 
 /// The file with each other value of one octet.
 fn put_others(alloc: Global, tally: &mut Tally, file: &[u8], at: usize) -> Result<(), Unread> {
-    let mut changed = file.to_vec(alloc)?;
+    let Ok(mut changed) = file.to_vec(alloc) else {
+        return Err(Unread);
+    };
     for value in 0..=255_u8 {
         if let Some(octet) = changed.get_mut(at) {
             *octet = value;
         }
-        if changed.as_slice() != file {
-            tally.put(alloc, changed.as_slice())?;
+        if changed.as_slice() != file && tally.put(alloc, changed.as_slice()).is_err() {
+            return Err(Unread);
         }
     }
     Ok(())
 }
 
 fn tally_of(alloc: Global, digits: &str) -> Result<Tally, Unread> {
-    let file = octets(alloc, digits)?;
+    let Ok(file) = octets(alloc, digits) else {
+        return Err(Unread);
+    };
     let mut tally = Tally {
         files: 0,
         not_knowledge: 0,
@@ -221,7 +243,9 @@ fn tally_of(alloc: Global, digits: &str) -> Result<Tally, Unread> {
         places: 0,
     };
     for at in 0..file.len() {
-        put_others(alloc, &mut tally, file.as_slice(), at)?;
+        if put_others(alloc, &mut tally, file.as_slice(), at).is_err() {
+            return Err(Unread);
+        }
     }
     Ok(tally)
 }
@@ -235,28 +259,40 @@ fn each_changed_octet_is_told(rt: HostRuntime) -> Result<(), Fail> {
         not_canonical: 259,
         places: 58550,
     };
-    assert_eq!(rt; tally_of(rt.alloc(), WHOLE)?, due);
+    assert!(rt; matches!(tally_of(rt.alloc(), WHOLE), Ok(tally) if tally == due));
     Ok(())
 }
 
 /// A record whose fragment has so many constructed elements within one another.
 fn nested_row(alloc: Global, levels: usize) -> Result<String, AllocError> {
-    let opens = "3080".repeat(alloc, levels)?;
-    let ends = "0000".repeat(alloc, levels)?;
+    let Ok(opens) = "3080".repeat(alloc, levels) else {
+        return Err(AllocError);
+    };
+    let Ok(ends) = "0000".repeat(alloc, levels) else {
+        return Err(AllocError);
+    };
     format!(in alloc; "seen 0 1 1 3080a180a380{opens}{ends}000000000000")
 }
 
 /// What is appended to one octet for what is known, or why nothing is.
 fn put_behind(alloc: Global, knowledge: &Knowledge) -> Result<usize, SaveError> {
     let names = Seq::from_vec(Vec::new(alloc));
-    let mut out = Vec::from_slice(alloc, &[7_u8])?;
-    save(alloc, knowledge, &names, &mut out)?;
-    Ok(out.len())
+    let Ok(mut out) = Vec::from_slice(alloc, &[7_u8]) else {
+        return Err(SaveError::Memory);
+    };
+    match save(alloc, knowledge, &names, &mut out) {
+        Ok(()) => Ok(out.len()),
+        Err(error) => Err(error),
+    }
 }
 
 fn save_levels(alloc: Global, levels: usize) -> Result<Result<usize, SaveError>, Unread> {
-    let row = nested_row(alloc, levels)?;
-    let knowledge = knowledge_of(alloc, row.as_str())?;
+    let Ok(row) = nested_row(alloc, levels) else {
+        return Err(Unread);
+    };
+    let Ok(knowledge) = knowledge_of(alloc, row.as_str()) else {
+        return Err(Unread);
+    };
     Ok(put_behind(alloc, &knowledge))
 }
 
@@ -270,18 +306,26 @@ fn more_than_64_levels_are_not_saved(rt: HostRuntime) -> Result<(), Fail> {
 
 /// One name of so many octets.
 fn one_name(alloc: Global, len: usize) -> Result<Names, AllocError> {
-    let octets = [b'n'].repeat(alloc, len)?;
-    let mut names = Vec::new(alloc);
-    names.push(Bytes::from_vec(octets)?)?;
-    Ok(Seq::from_vec(names))
+    let Ok(octets) = [b'n'].repeat(alloc, len) else {
+        return Err(AllocError);
+    };
+    let Ok(name) = Bytes::from_vec(octets) else {
+        return Err(AllocError);
+    };
+    match vec![in alloc; name] {
+        Ok(names) => Ok(Seq::from_vec(names)),
+        Err(_) => Err(AllocError),
+    }
 }
 
 /// The octets appended to none for names alone.
 fn save_names(alloc: Global, names: &Names) -> Result<Vec<u8>, SaveError> {
     let knowledge = Knowledge::new(alloc);
     let mut out = Vec::new(alloc);
-    save(alloc, &knowledge, names, &mut out)?;
-    Ok(out)
+    match save(alloc, &knowledge, names, &mut out) {
+        Ok(()) => Ok(out),
+        Err(error) => Err(error),
+    }
 }
 
 // The headers of an element of 4,194,305 octets and of the one name within.
@@ -294,43 +338,53 @@ fn has_names(loaded: &Loaded, due: &Names) -> bool {
     }
 }
 
-fn are_loaded(alloc: Global, file: &[u8], names: &Names) -> Result<bool, Unread> {
-    let loaded = load_octets(alloc, file)?;
-    Ok(file.len() == 4_194_304 && has_names(&loaded, names))
+fn are_loaded(alloc: Global, file: &[u8], names: &Names) -> bool {
+    let Ok(loaded) = load_octets(alloc, file) else {
+        return false;
+    };
+    file.len() == 4_194_304 && has_names(&loaded, names)
 }
 
 // Whether the file is refused with one octet more.
-fn is_too_long(alloc: Global, file: &mut Vec<u8>) -> Result<bool, Unread> {
-    file.push(b'n')?;
+fn is_too_long(alloc: Global, file: &mut Vec<u8>) -> bool {
+    if file.push(b'n').is_err() {
+        return false;
+    }
     for (octet, due) in file.iter_mut().zip(TOO_LONG) {
         *octet = due;
     }
-    let loaded = load_octets(alloc, file.as_slice())?;
-    Ok(is_for(&loaded, LoadError::NotKnowledge { at: 0 }))
+    let Ok(loaded) = load_octets(alloc, file.as_slice()) else {
+        return false;
+    };
+    is_for(&loaded, LoadError::NotKnowledge { at: 0 })
 }
 
-fn is_longest(alloc: Global, len: usize) -> Result<bool, Unread> {
-    let names = one_name(alloc, len)?;
-    let mut file = read(save_names(alloc, &names))?;
-    Ok(
-        is_true(are_loaded(alloc, file.as_slice(), &names))
-            && is_true(is_too_long(alloc, &mut file)),
-    )
+fn is_longest(alloc: Global, len: usize) -> bool {
+    let Ok(names) = one_name(alloc, len) else {
+        return false;
+    };
+    let Ok(mut file) = save_names(alloc, &names) else {
+        return false;
+    };
+
+    are_loaded(alloc, file.as_slice(), &names) && is_too_long(alloc, &mut file)
 }
 
 #[test]
 fn an_element_of_4194304_octets_is_saved_and_loaded(rt: HostRuntime) -> Result<(), Fail> {
-    assert!(rt; is_true(is_longest(rt.alloc(), 4_194_294)));
+    assert!(rt; is_longest(rt.alloc(), 4_194_294));
     Ok(())
 }
 
-fn is_longer(alloc: Global, len: usize) -> Result<bool, Unread> {
-    let names = one_name(alloc, len)?;
-    Ok(matches!(save_names(alloc, &names), Err(SaveError::TooLong)))
+fn is_longer(alloc: Global, len: usize) -> bool {
+    let Ok(names) = one_name(alloc, len) else {
+        return false;
+    };
+    matches!(save_names(alloc, &names), Err(SaveError::TooLong))
 }
 
 #[test]
 fn an_element_of_4194305_octets_is_not_saved(rt: HostRuntime) -> Result<(), Fail> {
-    assert!(rt; is_true(is_longer(rt.alloc(), 4_194_295)));
+    assert!(rt; is_longer(rt.alloc(), 4_194_295));
     Ok(())
 }

@@ -6,28 +6,39 @@ use zapdu_tests::boxes::{diag_node, record_node};
 use zapdu_tests::parts::{Line, put_node, put_number, put_word};
 use zber::Seq;
 use zber_tests::rows::{spells, unescape};
-use zber_tests::unread::Unread;
+use zber_tests::unread::{Unread, read};
 use zknow::{Fact, Knowledge, Known, Mode, Names, print_list};
 
 fn name(alloc: Global, text: &str) -> Result<Bytes, Unread> {
-    let octets = unescape(alloc, text)?;
-    Ok(Bytes::from_vec(octets)?)
+    let Ok(octets) = unescape(alloc, text) else {
+        return Err(Unread);
+    };
+    read(Bytes::from_vec(octets))
 }
 
 // Names with a space between each two.
 fn names(alloc: Global, text: &str) -> Result<Names, Unread> {
     let mut names = Vec::new(alloc);
     for word in text.split_whitespace() {
-        names.push(name(alloc, word)?)?;
+        let Ok(name) = name(alloc, word) else {
+            return Err(Unread);
+        };
+        if names.push(name).is_err() {
+            return Err(Unread);
+        }
     }
     Ok(Seq::from_vec(names))
 }
 
 fn list(alloc: Global, knowledge: &Knowledge, text: &str, mode: Mode) -> Result<Vec<u8>, Unread> {
-    let names = names(alloc, text)?;
+    let Ok(names) = names(alloc, text) else {
+        return Err(Unread);
+    };
     let mut out = Vec::new(alloc);
-    print_list(alloc, knowledge, &names, mode, &mut out)?;
-    Ok(out)
+    match print_list(alloc, knowledge, &names, mode, &mut out) {
+        Ok(()) => Ok(out),
+        Err(_) => Err(Unread),
+    }
 }
 
 /// Whether these octets are the printed list.

@@ -47,8 +47,12 @@ fn row(alloc: Global, dice: &mut Dice) -> Result<String, AllocError> {
 fn table(alloc: Global, dice: &mut Dice, count: usize) -> Result<String, AllocError> {
     let mut table = String::new(alloc);
     for _ in 0..count {
-        table.push_str(row(alloc, dice)?.as_str())?;
-        table.push('\n')?;
+        let Ok(row) = row(alloc, dice) else {
+            return Err(AllocError);
+        };
+        if table.push_str(row.as_str()).is_err() || table.push('\n').is_err() {
+            return Err(AllocError);
+        }
     }
     Ok(table)
 }
@@ -63,14 +67,20 @@ fn join_two(
     } else {
         (first, second)
     };
-    whole.absorb(&part)?;
-    Ok(whole)
+    match whole.absorb(&part) {
+        Ok(()) => Ok(whole),
+        Err(_) => Err(AllocError),
+    }
 }
 
 fn part(alloc: Global, rows: &[&str], places: &[usize]) -> Result<Box<Knowledge>, Unread> {
-    let mut part = nothing(alloc)?;
-    add_in_order(alloc, &mut part, rows, places)?;
-    Ok(part)
+    let Ok(mut part) = nothing(alloc) else {
+        return Err(Unread);
+    };
+    match add_in_order(alloc, &mut part, rows, places) {
+        Ok(()) => Ok(part),
+        Err(error) => Err(error),
+    }
 }
 
 // What is known of rows in some order, where so many at a time are known apart and then joined to the others.
@@ -80,11 +90,20 @@ fn known_of_parts(
     rows: &[&str],
     size: usize,
 ) -> Result<Box<Knowledge>, Unread> {
-    let order = dice.order(alloc, rows.len())?;
-    let mut whole = nothing(alloc)?;
+    let Ok(order) = dice.order(alloc, rows.len()) else {
+        return Err(Unread);
+    };
+    let Ok(mut whole) = nothing(alloc) else {
+        return Err(Unread);
+    };
     for places in order.chunks(size.max(1)) {
-        let part = part(alloc, rows, places)?;
-        whole = join_two(whole, part, dice.number_below(2) == 0)?;
+        let Ok(part) = part(alloc, rows, places) else {
+            return Err(Unread);
+        };
+        let Ok(next) = join_two(whole, part, dice.number_below(2) == 0) else {
+            return Err(Unread);
+        };
+        whole = next;
     }
     Ok(whole)
 }
@@ -96,7 +115,9 @@ fn has_list_of_parts(
     size: usize,
     due: &[u8],
 ) -> Result<bool, Unread> {
-    let knowledge = known_of_parts(alloc, dice, rows, size)?;
+    let Ok(knowledge) = known_of_parts(alloc, dice, rows, size) else {
+        return Err(Unread);
+    };
     Ok(has_list(alloc, &knowledge, "a b", Mode::Text, due))
 }
 
@@ -104,20 +125,37 @@ fn has_list_of_parts(
 const SIZES: &str = "400\n200\n90\n13\n2\n1\n";
 
 fn list_of(alloc: Global, rows: &[&str]) -> Result<Vec<u8>, Unread> {
-    let facts = facts_of(alloc, rows)?;
+    let Ok(facts) = facts_of(alloc, rows) else {
+        return Err(Unread);
+    };
     list(alloc, &["a", "b"], facts.as_slice())
+}
+
+fn has_list_of_list(
+    alloc: Global,
+    dice: &mut Dice,
+    rows: &[&str],
+    size: usize,
+) -> Result<bool, Unread> {
+    match list_of(alloc, rows) {
+        Ok(due) => has_list_of_parts(alloc, dice, rows, size, due.as_slice()),
+        Err(error) => Err(error),
+    }
 }
 
 fn have_list_of_reference(alloc: Global, row: &str) -> Result<bool, Unread> {
     let mut dice = Dice::new(1);
-    let table = table(alloc, &mut dice, 400)?;
-    let rows: Vec<&str> = table.as_str().lines().collect(alloc)?;
-    let due = list_of(alloc, rows.as_slice())?;
-    let size = row.parse::<usize>()?;
-    has_list_of_parts(alloc, &mut dice, rows.as_slice(), size, due.as_slice())
+    let Ok(table) = table(alloc, &mut dice, 400) else {
+        return Err(Unread);
+    };
+    let rows: Result<Vec<&str>, AllocError> = table.as_str().lines().collect(alloc);
+    match (rows, row.parse::<usize>()) {
+        (Ok(rows), Ok(size)) => has_list_of_list(alloc, &mut dice, rows.as_slice(), size),
+        _ => Err(Unread),
+    }
 }
 
 #[test]
 fn facts_in_any_order_have_the_list_of_the_reference(rt: HostRuntime) -> Result<(), Fail> {
-    each_row(rt.alloc(), SIZES, &have_list_of_reference)
+    each_row(rt.alloc(), SIZES, have_list_of_reference)
 }

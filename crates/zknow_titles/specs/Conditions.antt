@@ -5,6 +5,7 @@ use Rattle.std.specs.Option.{option_or}
 use Rattle.std.specs.Str.{bytes_eq}
 use Rattle.zknow_titles.specs.declared.conditions.TheConstants.{CONDITIONS, COUNT}
 
+-- the octet (hexadecimal 0A) that ends a line of the conditions
 abbrev pub is_line_feed : ℕ → Bool
 is_line_feed x = x == 0x0A
 

@@ -30,6 +30,7 @@ condition_text set condition =
 abbrev pub bracketed : List ℕ → List ℕ
 bracketed info = if length info == 0 then [] else codes " (" ++ info ++ codes ")"
 
+-- a diagnostic in the default format: its condition, then its additional information as safe text in brackets
 abbrev pub default_words : DefaultDiag → List ℕ
 default_words d = condition_text d.diag_set d.condition ++ bracketed (text Utf8 (info_octets d.info))
 

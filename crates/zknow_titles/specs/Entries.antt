@@ -27,6 +27,7 @@ pub record EntryText : Type 0 where
   pub year : List ℕ
   pub line : List ℕ
 
+-- what is shown of a record with this year and this text
 abbrev pub texts : List ℕ → List ℕ → EntryText
 texts year line = record { year = year; line = line }
 
@@ -36,16 +37,19 @@ plain line = texts [] line
 
 -- ---- syntaxes (Z39.50-2003, Appendix REC)
 
+-- the syntax UNIMARC: 1.2.840.10003.5.1
 abbrev pub unimarc : List ℕ
 unimarc = 1 ∷ 2 ∷ 840 ∷ 10003 ∷ 5 ∷ 1 ∷ []
 
+-- the syntax SUTRS, plain text without structure: 1.2.840.10003.5.101
 abbrev pub sutrs : List ℕ
 sutrs = 1 ∷ 2 ∷ 840 ∷ 10003 ∷ 5 ∷ 101 ∷ []
 
+-- the syntax XML: 1.2.840.10003.5.109.10
 abbrev pub xml : List ℕ
 xml = 1 ∷ 2 ∷ 840 ∷ 10003 ∷ 5 ∷ 109 ∷ 10 ∷ []
 
--- the formats of MARC: 1.2.840.10003.5.1 to 1.2.840.10003.5.99
+-- the formats of MARC: 1.2.840.10003.5.0 to 1.2.840.10003.5.99
 abbrev pub is_marc : List ℕ → Bool
 is_marc syntax =
     length syntax == 6 && bytes_eq (take 5 syntax) (1 ∷ 2 ∷ 840 ∷ 10003 ∷ 5 ∷ []) && nat_le (slice_index syntax 5) 99
@@ -55,6 +59,7 @@ abbrev pub syntax_text : Option (List ℕ) → List ℕ
 syntax_text None = codes "record of no named syntax"
 syntax_text (Some syntax) = codes "record of syntax " ++ dotted syntax
 
+-- a count of octets behind a comma, as in `, 24 octets`
 abbrev pub counted_octets : ℕ → List ℕ
 counted_octets n = codes ", " ++ decimal n ++ codes " octets"
 
@@ -111,6 +116,7 @@ content_entry direct (Arbitrary bits) = bits_entry direct
 abbrev pub diag_entry : DiagRec → EntryText
 diag_entry d = plain (codes "not shown: " ++ diag_words d)
 
+-- a record by its content, a diagnostic in its place by its words, and a fragment as a part of a record
 abbrev pub body_entry : RecordBody → EntryText
 body_entry (Retrieval v) = content_entry v.direct v.content
 body_entry (Surrogate d) = diag_entry d
@@ -126,5 +132,6 @@ is_body_shown (Retrieval v) = true
 is_body_shown (Surrogate d) = false
 is_body_shown (Fragment e) = true
 
+-- the target sent the record or a part of it, and no diagnostic in its place
 abbrev pub is_shown : Record → Bool
 is_shown r = is_body_shown r.body

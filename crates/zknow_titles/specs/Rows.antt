@@ -14,9 +14,11 @@ use Rattle.zknow_titles.specs.Names.{label}
 abbrev pub row_name : List (List ℕ) → RowKey → List ℕ
 row_name shown k = clipped 24 (label shown k.target k.set)
 
+-- the columns that a row's position takes in decimal
 abbrev pub position_width : RowKey → ℕ
 position_width k = length (signed_decimal k.position)
 
+-- the columns that a row's name takes, as it is shown
 abbrev pub name_width : List (List ℕ) → RowKey → ℕ
 name_width shown k = width (row_name shown k)
 
@@ -56,5 +58,6 @@ record_lines w head (r ∷ []) = (head ++ row_entry (entry r)) ∷ []
 record_lines w head (r ∷ q ∷ rest) =
     several head (length (r ∷ q ∷ rest)) ∷ map (further_line w) (r ∷ q ∷ rest)
 
+-- the lines of a row, from all records that are known at its position
 abbrev pub row_lines : Widths → List (List ℕ) → List Fact → RowKey → List (List ℕ)
 row_lines w shown facts k = record_lines w (row_head w shown k) (records_at k.target k.set k.position facts)

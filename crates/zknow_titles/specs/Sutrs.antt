@@ -10,7 +10,7 @@ abbrev pub behind_gap : Bool → ℕ → List ℕ
 behind_gap spaced c = if spaced then 0x20 ∷ c ∷ [] else c ∷ []
 
 -- The characters without spaces at the ends, and with one space for several side by side. `begun`: a character was
--- kept; `gap`: a space was met since.
+-- kept; `gap`: there was a space since.
 abbrev pub squeezed : Bool → Bool → List ℕ → List ℕ
 squeezed begun gap [] = []
 squeezed begun gap (c ∷ cs) =

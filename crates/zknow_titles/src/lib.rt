@@ -12,8 +12,6 @@ pub mod laws;
 mod names;
 mod rows;
 mod sutrs;
-#[cfg(test)]
-mod tests;
 mod titles;
 
 pub use titles::print_titles;

@@ -44,6 +44,7 @@ title_part format s =
     then option_to_list (mark_before format s.code) ++ s.octets ∷ []
     else []
 
+-- what is shown of the field of the title; nothing where the record has no such field
 abbrev pub title_parts : Format → Option (List ℕ) → List (List ℕ)
 title_parts format None = []
 title_parts format (Some field) = flat_map (title_part format) (subfields field)
@@ -60,6 +61,7 @@ heading Marc21 octets =
 heading Unimarc octets =
     option_or (subfield_in (codes "700") (byte "a") octets) (subfield_in (codes "710") (byte "a") octets)
 
+-- a slash and the main heading; nothing where there is no heading
 abbrev pub behind_slash : Option (List ℕ) → List (List ℕ)
 behind_slash None = []
 behind_slash (Some found) = codes "/" ∷ found ∷ []

@@ -30,6 +30,7 @@ isbn_of_field field = option_and_then leading_number (first_subfield (byte "a") 
 unfoldable pub isbn_number : Format → List ℕ → Option (List ℕ)
 isbn_number format octets = first_given isbn_of_field (tagged_fields (isbn_tag format) octets)
 
+-- `ISBN` and the number; nothing where there is no number
 abbrev pub behind_word : Option (List ℕ) → List (List ℕ)
 behind_word None = []
 behind_word (Some number) = codes "ISBN" ∷ number ∷ []

@@ -18,6 +18,7 @@ use Rattle.zmarc.specs.Subfields.{Subfield, subfields}
 
 -- ---- what is shown
 
+-- a printable octet of ASCII: hexadecimal 20 to 7E
 abbrev pub IsPrintable : ℕ → Type 0
 IsPrintable x = (0x20 ≤ x) × (x < 0x7F)
 
@@ -36,6 +37,7 @@ pub record TextLaws : Type 0 where
 
 -- ---- subfields
 
+-- the octets have no delimiter of subfields, hexadecimal 1F
 abbrev pub NoDelimiter : List ℕ → Type 0
 NoDelimiter octets = All (λ x. x ≢ 0x1F) octets
 

@@ -37,6 +37,7 @@ meaning Escape x = if x == 0x73 then Nothing Plain else (if x == 0x28 then Nothi
 meaning Bracket x = if x == 0x42 then Nothing Plain else Letter 0xFFFD Foreign
 meaning Foreign x = if x == 0x1B then Nothing Escape else Nothing Foreign
 
+-- where the next octet stands among escape sequences; behind a mark that is in ASCII and ANSEL
 abbrev pub next_mode : Step → Mode
 next_mode (Nothing mode) = mode
 next_mode (Mark c) = Plain

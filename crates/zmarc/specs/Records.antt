@@ -24,9 +24,11 @@ base_address octets =
 abbrev pub length_digits : List ℕ → ℕ
 length_digits octets = digit_or 4 (slice_index octets 20)
 
+-- how many octets of an entry tell where its field starts (position 21), or 5 where that is no digit
 abbrev pub start_digits : List ℕ → ℕ
 start_digits octets = digit_or 5 (slice_index octets 21)
 
+-- how many octets of an entry are for other use (position 22), or 0 where that is no digit
 abbrev pub other_octets : List ℕ → ℕ
 other_octets octets = digit_or 0 (slice_index octets 22)
 
@@ -40,6 +42,7 @@ entry_len octets = 3 + length_digits octets + start_digits octets + other_octets
 abbrev pub is_end : ℕ → Bool
 is_end x = x == 0x1E || x == 0x1D
 
+-- the octets from position 24 to the first terminator, or to this base address; none without a base address
 abbrev pub directory_to : List ℕ → Option ℕ → List ℕ
 directory_to octets None = []
 directory_to octets (Some at) = before_first is_end (slice_range octets 24 at)
@@ -48,6 +51,7 @@ directory_to octets (Some at) = before_first is_end (slice_range octets 24 at)
 unfoldable pub directory : List ℕ → List ℕ
 directory octets = directory_to octets (base_address octets)
 
+-- the octets from this base address on; none without a base address
 abbrev pub from_base : List ℕ → Option ℕ → List ℕ
 from_base octets None = []
 from_base octets (Some at) = drop at octets
@@ -88,6 +92,7 @@ abbrev pub tagged_octets : List ℕ → ℕ → ℕ → List ℕ → List ℕ �
 tagged_octets contents length_len start_len tag entry =
     if bytes_eq (take 3 entry) tag then octets_of contents length_len start_len entry else None
 
+-- the field that an entry tells of: its tag and its octets; none where the entry tells of no octets
 abbrev pub field_of : List ℕ → List ℕ → Option Field
 field_of octets entry =
     option_map (λ found. record { tag = take 3 entry; octets = found })
@@ -101,6 +106,7 @@ entry_count octets = length (directory octets) / entry_len octets
 abbrev pub fields : List ℕ → List Field
 fields octets = filter_map (field_of octets) (entries (entry_len octets) (entry_count octets) (directory octets))
 
+-- the field has this tag, octet by octet
 abbrev pub has_tag : List ℕ → Field → Bool
 has_tag tag f = bytes_eq f.tag tag
 
@@ -123,8 +129,9 @@ told_total octets =
     sum_by (λ e. told_len (octets_of (contents octets) (length_digits octets) (start_digits octets) e))
     (entries (entry_len octets) (entry_count octets) (directory octets))
 
--- the octets are a record: the leader tells where the data begin, and the entries do not tell of the same octets over and
--- over: together of at most 16 times as many as there are, so that reading a record takes time in proportion to its length
+-- the octets are a record: the leader tells where the data begin, and the entries do not tell of the same octets over
+-- and over: together of at most 16 times as many as there are, so that reading a record takes time in proportion to
+-- its length
 unfoldable pub is_record : List ℕ → Bool
 is_record octets =
     nat_lt (length octets) (2 ^ 32) && is_some (base_address octets) && nat_le (told_total octets) (16 * length octets)

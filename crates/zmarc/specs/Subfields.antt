@@ -4,6 +4,7 @@ use Rattle.std.specs.List.{slice_split, filter_map}
 use Rattle.std.specs.Option.{option_map, option_or, option_and_then}
 use Rattle.zmarc.specs.Records.{first_field}
 
+-- the delimiter of subfields, hexadecimal 1F
 abbrev pub is_delimiter : ℕ → Bool
 is_delimiter x = x == 0x1F
 
@@ -15,6 +16,7 @@ pub record Subfield : Type 0 where
   pub code : ℕ
   pub octets : List ℕ
 
+-- the subfield behind one delimiter: its first octet is the code, and the rest the data
 abbrev pub subfield_of : List ℕ → Option Subfield
 subfield_of [] = None
 subfield_of (code ∷ octets) = Some (record { code = code; octets = octets })

@@ -30,12 +30,14 @@ base_of fs = 24 + length fs * 12 + 1
 abbrev pub leader : List ℕ → List ℕ → List Field → List ℕ
 leader status coded fs = (status ++ (digits 5 (base_of fs) ++ coded)) ++ codes "4500"
 
+-- a whole record: leader, directory and field terminator, then the fields and the record terminator
 abbrev pub record_of : List ℕ → List ℕ → List Field → List ℕ
 record_of status coded fs =
     leader status coded fs ++ (directory_from 0 fs ++ 0x1E ∷ (flat_map ended fs ++ 0x1D ∷ []))
 
 -- ---- what can be written
 
+-- the octets have no field terminator and no record terminator
 abbrev pub NoEnd : List ℕ → Type 0
 NoEnd octets = All (λ x. is_end x ≡ false) octets
 

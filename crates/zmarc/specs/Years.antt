@@ -13,6 +13,7 @@ use Rattle.zmarc.specs.Subfields.{first_subfield, first_given, subfield_in}
 unfoldable pub four_digits : List ℕ → Option (List ℕ)
 four_digits octets = if nat_le 4 (length octets) && is_some (number (take 4 octets)) then Some (take 4 octets) else None
 
+-- the first four digits side by side, at whatever octet they begin
 abbrev pub first_year_from : List ℕ → Option (List ℕ)
 first_year_from [] = None
 first_year_from (x ∷ xs) = option_or (four_digits (x ∷ xs)) (first_year_from xs)

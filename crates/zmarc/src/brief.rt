@@ -79,19 +79,19 @@ fn put_pieces(
 /// Appends the line that is shown of a record to `out`, and tells whether the octets are a record.
 ///
 /// The line has the title and who made it, and the ISBN, in this order, as far as the record has them, with one space
-/// between them; the year is asked for by `find_year`. It ends with no line feed. It is UTF-8 and safe to print on a terminal, whatever the octets
-/// are: it has no control character (C0, delete, C1), no separator of lines or paragraphs (U+2028, U+2029), no character
-/// that turns the direction of text (U+061C, U+200E, U+200F, U+202A to U+202E, U+2066 to U+2069), and neither U+200B nor
-/// U+FEFF. Each of these is shown as U+FFFD; but a tab, a line feed and a carriage return are shown as a space, and
-/// U+0098 and U+009C, the marks round what is left out in sorting, are not shown at all. Letters and their marks are
-/// composed as in NFC.
+/// between them; the year is asked for by `find_year`. It ends with no line feed. It is UTF-8 and safe to print on a
+/// terminal, whatever the octets are: it has no control character (C0, delete, C1), no separator of lines or paragraphs
+/// (U+2028, U+2029), no character that turns the direction of text (U+061C, U+200E, U+200F, U+202A to U+202E, U+2066 to
+/// U+2069), and neither U+200B nor U+FEFF. Each of these is shown as U+FFFD; but a tab, a line feed and a carriage
+/// return are shown as a space, and U+0098 and U+009C, the marks round what is left out in sorting, are not shown at
+/// all. Letters and their marks are composed as in NFC.
 ///
-/// `octets` is one record of ISO 2709, of any length; more octets behind the record do no harm. `format` says which tags
-/// and codes the record has.
+/// `octets` is one record of ISO 2709, of any length; more octets behind the record do no harm. `format` says which
+/// tags and codes the record has.
 ///
 /// The call answers `false`, and appends nothing, where the octets are no record (`is_record`). It answers `true` and
-/// may append nothing where the record has nothing to be shown. It fails only for want of memory; then `out` is as it
-/// was.
+/// may append nothing where the record has nothing to be shown. It fails only if no memory is found; then `out` is as
+/// it was.
 #[tactic(auto, unfolding(crate::specs::Briefs::brief), using(crate::proofs::SafeTheory::brief_is_safe))]
 pub fn put_brief(
     alloc: Global,

@@ -1,5 +1,6 @@
 //! Bibliographic records of ISO 2709 (ANSI/NISO Z39.2) as one readable line each: the title and who made it, and the
-//! ISBN, of records in MARC 21 and UNIMARC; and the year. The line is text that is safe to print, whatever the octets are.
+//! ISBN, of records in MARC 21 and UNIMARC; and the year. The line is text that is safe to print, whatever the octets
+//! are.
 #![tactic(auto)]
 
 mod brief;
@@ -13,8 +14,6 @@ mod pieces;
 mod records;
 mod shown;
 mod subfields;
-#[cfg(test)]
-mod tests;
 mod year;
 
 pub use brief::put_brief;

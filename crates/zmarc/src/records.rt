@@ -166,9 +166,9 @@ fn tell_at_most(octets: &[u8], most: usize) -> bool
 }
 
 /// Tells whether the octets are a record: they have a leader of 24 octets, whose positions 12 to 16 are five digits,
-/// these tell a base address that is at least 24 and at most the number of octets, and the entries of the directory tell
-/// of at most 16 times as many octets as there are. Nothing else of the leader is looked at. What has 2^32 octets or more
-/// is no record.
+/// these tell a base address that is at least 24 and at most the number of octets, and the entries of the directory
+/// tell of at most 16 times as many octets as there are. Nothing else of the leader is looked at. What has 2^32 octets
+/// or more is no record.
 #[tactic(auto, unfolding(crate::specs::Records::is_record))]
 pub fn is_record(octets: &[u8]) -> bool
     ensures { result ≡ is_record octets.now }

@@ -10,7 +10,7 @@ use Rattle.zquery.specs.Trees.{RpnQuery}
 use Rattle.zquery.specs.Notation.Printing.{printable}
 use Rattle.zquery.specs.Element.Type1.{WritesQuery}
 use Rattle.zquery.specs.Element.Type1Reading.{query_spelling}
-use Rattle.zquery.specs.Notation.Laws.{TextPrintable, TextSpellable}
+use Rattle.zquery.specs.Notation.Laws.{PrintableTexts, SpellableTexts}
 use Rattle.zmeta_commands.specs.Pqf.{IsQueryOf}
 
 memory_or_no_text : (q : RpnQuery) (r : Result (Unit {0}) PrintError) → printable q ≡ true → (r ≡ Err prints.NotPrintable → printable q ≡ false) → IfErr r (λ e. e ≡ prints.Memory)
@@ -18,7 +18,7 @@ memory_or_no_text q (Ok u) is none = tt
 memory_or_no_text q (Err prints.NotPrintable) is none = let other : printable q ≡ false = none refl in absurd cc
 memory_or_no_text q (Err prints.Memory) is none = refl
 
-pub printed : (q : RpnQuery) (r : Result (Unit {0}) PrintError) → TextPrintable → ((text : List ℕ) × IsQueryOf text q) → (r ≡ Err prints.NotPrintable → printable q ≡ false) → IfErr r (λ e. e ≡ prints.Memory)
+pub printed : (q : RpnQuery) (r : Result (Unit {0}) PrintError) → PrintableTexts → ((text : List ℕ) × IsQueryOf text q) → (r ≡ Err prints.NotPrintable → printable q ≡ false) → IfErr r (λ e. e ≡ prints.Memory)
 printed q r law known none = memory_or_no_text q r (law known.0 q known.1.0 known.1.1) none
 
 memory_or_no_element : (q : RpnQuery) (r : Result Element BuildError) → ((n : Element) × WritesQuery q n) → WritingResult (WritesQuery q) r → IfErr r (λ e. e ≡ builds.Memory)
@@ -26,7 +26,7 @@ memory_or_no_element q (Ok n) some is = tt
 memory_or_no_element q (Err builds.NotSpellable) some none = absurd (none some.0 some.1)
 memory_or_no_element q (Err builds.Memory) some is = refl
 
-pub built : (q : RpnQuery) (r : Result Element BuildError) → TextSpellable → ((text : List ℕ) × IsQueryOf text q) → WritingResult (WritesQuery q) r → IfErr r (λ e. e ≡ builds.Memory)
+pub built : (q : RpnQuery) (r : Result Element BuildError) → SpellableTexts → ((text : List ℕ) × IsQueryOf text q) → WritingResult (WritesQuery q) r → IfErr r (λ e. e ≡ builds.Memory)
 built q r law known is = memory_or_no_element q r (law known.0 q known.1.0) is
 
 -- the element is the one that is made of the query

@@ -3,7 +3,7 @@ use Rattle.std.proofs.Common.{◌≡◌, ◌∙◌, ap, ℕ, List, [], ◌++◌,
 use Rattle.std.specs.Io.KnownBytes.{Appends}
 use Rattle.zmeta_commands.specs.Arguments.{HelpResult}
 use Rattle.zmeta_commands.specs.Devices.{Device, Outputs, PutFailure, PutResult}
-use Rattle.zmeta_commands.specs.Finished.{IsPrinted, PutFinishedResult, IsOfSaving, FinishResult, IsUnmade, Holds}
+use Rattle.zmeta_commands.specs.Finished.{IsPrinted, PutFinishedResult, IsOfSaving, FinishResult, IsUnmade, HasOctets}
 use Rattle.zmeta_world.specs.declared.world.World.{World}
 use Rattle.zmeta_world.specs.Worlds.{IsWorld}
 use Rattle.zoom.specs.ServeError.{ServeError}
@@ -41,7 +41,7 @@ filled (Some was) (Some xs) held octets known empty h = ap Some (h ∙ ap (λ z.
 -- a new file holds the octets that were written to it
 pub holds : {M : Type 0} (contents : M → Option (List ℕ)) (old new : M) (octets : List ℕ)
     → IfSome (contents old) (λ held. held ≡ []) → Appends (contents old) (contents new) octets
-    → Holds contents new octets
+    → HasOctets contents new octets
 holds contents old new octets empty h known =
     filled (contents old) (contents new) (known old).0 octets (known old).1 empty h
 

@@ -69,8 +69,8 @@ abbrev pub AfterHelp : Outputs → Outputs → Status → Type 0
 AfterHelp before after status = (answer : Result (Unit {0}) Fault) × HelpResult before.output after.output answer
     × AfterEnd (as_done answer) before.errors after.errors status
 
--- no command was run: help is printed, or nothing is; want of memory is reported, and the text for wrong arguments is
--- for `clap`
+-- no command was run: help is printed, or nothing is; that no memory was found is reported, and the text for wrong
+-- arguments is for `clap`
 pub record AfterUsage (error : Error) (before after : Outputs) (status : Status) : Type 0 where
   pub memory : kind_of error ≡ kinds.OutOfMemory
       → (status ≡ statuses.Memory) × AfterTell before.errors after.errors faults.Memory × (after.output ≡ before.output)

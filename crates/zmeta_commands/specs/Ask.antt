@@ -61,7 +61,7 @@ HasNoQuestion only search file name =
 abbrev pub AskFileResult : Manner → SearchTexts → View → List ℕ → Result Finished Fault → Type 0
 AskFileResult manner search view file (Ok r) = AreAsked manner search view file r
 AskFileResult manner search view file (Err (Line number)) = IsLineUnasked search file number
-AskFileResult manner search view file (Err (NoQuestion told)) = HasNoQuestion manner.only search file told.now
+AskFileResult manner search view file (Err (NoQuestion unknown)) = HasNoQuestion manner.only search file unknown.now
 AskFileResult manner search view file (Err (Read path)) = Unit {0}
 AskFileResult manner search view file (Err Memory) = Unit {0}
 AskFileResult manner search view file (Err f) = IsSearchRefusal search f
@@ -69,15 +69,15 @@ AskFileResult manner search view file (Err f) = IsSearchRefusal search f
 -- the finished connections of a network plan, or why its hosts were not asked
 abbrev pub AskNetworkResult : Manner → View → NetworkRun → Result Finished Fault → Type 0
 AskNetworkResult manner view e (Ok r) = IsAskedOf manner view e r
-AskNetworkResult manner view e (Err (NoQuestion told)) = IsFirstUnknown manner.only e.names told.now
+AskNetworkResult manner view e (Err (NoQuestion unknown)) = IsFirstUnknown manner.only e.names unknown.now
 AskNetworkResult manner view e (Err Memory) = Unit {0}
 AskNetworkResult manner view e (Err _) = ⊥
 
 -- a fault that can end asking the hosts of the file at a path
 abbrev pub IsOfAsking : List ℕ → Fault → Type 0
-IsOfAsking path (Read told) = told.now ≡ path
+IsOfAsking path (Read failed) = failed.now ≡ path
 IsOfAsking path (Line number) = Unit {0}
-IsOfAsking path (NoQuestion told) = Unit {0}
+IsOfAsking path (NoQuestion unknown) = Unit {0}
 IsOfAsking path (Query kind at) = Unit {0}
 IsOfAsking path Wanted = Unit {0}
 IsOfAsking path Syntax = Unit {0}

@@ -61,7 +61,7 @@ pub record IsFirstUnknown (only names : List (List ℕ)) (name : List ℕ) : Typ
 abbrev pub AddressesResult
     : List (List ℕ) → List (List ℕ) → List (List ℕ) → Result (List (Option (List ℕ))) Fault → Type 0
 AddressesResult only names addresses (Ok chosen) = AreAllKnown only names × IsChosen only names addresses chosen
-AddressesResult only names addresses (Err (NoQuestion told)) = IsFirstUnknown only names told.now
+AddressesResult only names addresses (Err (NoQuestion name)) = IsFirstUnknown only names name.now
 AddressesResult only names addresses (Err Memory) = Unit {0}
 AddressesResult only names addresses (Err _) = ⊥
 
@@ -73,5 +73,5 @@ FirstUnknownResult only names (Some name) = IsFirstUnknown only names name
 -- each of the names is a question's, or this is the first that is not
 abbrev pub CheckNamesResult : List (List ℕ) → List (List ℕ) → Result (Unit {0}) Fault → Type 0
 CheckNamesResult only names (Ok u) = AreAllKnown only names
-CheckNamesResult only names (Err (NoQuestion told)) = IsFirstUnknown only names told.now
+CheckNamesResult only names (Err (NoQuestion name)) = IsFirstUnknown only names name.now
 CheckNamesResult only names (Err _) = ⊥

@@ -41,17 +41,17 @@ written s = record { output = s.output; errors = s.errors }
 -- two streams that are written, by what their writers hold
 abbrev pub outputs
     : {W E : Type 0} → (W → Option (List ℕ)) → (E → Option (List ℕ)) → Output W → Output E → Outputs
-outputs contents told output errors =
-    record { output = output_device contents output; errors = output_device told errors }
+outputs contents reported output errors =
+    record { output = output_device contents output; errors = output_device reported errors }
 
 -- a stream that is read and two that are written, by what the reader has left and the writers hold
 abbrev pub streams
     : {R W E : Type 0} → (R → Option (List ℕ)) → (W → Option (List ℕ)) → (E → Option (List ℕ))
     → Input R → Output W → Output E → Streams
-streams remaining contents told input output errors = record {
+streams remaining contents reported input output errors = record {
   input = input_device remaining input;
   output = output_device contents output;
-  errors = output_device told errors;
+  errors = output_device reported errors;
 }
 
 -- nothing was written
@@ -83,7 +83,7 @@ pub record HasStopped (old new : Device) (text : List ℕ) : Type 0 where
 
 -- the fault names the stream that failed after a front of the text was written
 abbrev pub PutFailure : Device → Device → List ℕ → Fault → Type 0
-PutFailure old new text (Write told) = (told.now ≡ old.path) × HasStopped old new text
+PutFailure old new text (Write failed) = (failed.now ≡ old.path) × HasStopped old new text
 PutFailure old new text _ = ⊥
 
 -- the whole text was written, or a front of it if the stream failed
@@ -119,6 +119,6 @@ AfterEnd answer old new status = AfterReport old new answer × (status ≡ end_s
 
 -- the stream that a fault names has failed: the one read, or the one written
 abbrev pub IsOfStream : {A : Type 0} → Device → Device → Result A Fault → Type 0
-IsOfStream input output (Err (Read told)) = (told.now ≡ input.path) × (input.has_failed ≡ true)
-IsOfStream input output (Err (Write told)) = (told.now ≡ output.path) × (output.has_failed ≡ true)
+IsOfStream input output (Err (Read failed)) = (failed.now ≡ input.path) × (input.has_failed ≡ true)
+IsOfStream input output (Err (Write failed)) = (failed.now ≡ output.path) × (output.has_failed ≡ true)
 IsOfStream input output _ = Unit {0}

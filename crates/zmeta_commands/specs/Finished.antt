@@ -121,19 +121,19 @@ abbrev pub IsSavedOf : Finished → List ℕ → Type 0
 IsSavedOf r octets = IsSaved r.names r.meta.pool.knowledge octets
 
 -- an element of the saved file would pass the limits
-abbrev pub PassesLimits : Finished → Type 0
-PassesLimits r = HasTooDeep r.names r.meta.pool.knowledge ⊎ HasTooLong r.names r.meta.pool.knowledge
+abbrev pub IsOverLimits : Finished → Type 0
+IsOverLimits r = HasTooDeep r.names r.meta.pool.knowledge ⊎ HasTooLong r.names r.meta.pool.knowledge
 
 -- the octets of the saved file, or why there are none; the file at the path is refused only if they pass the limits
 abbrev pub SavedOctetsResult : List ℕ → Finished → Result (List ℕ) Fault → Type 0
 SavedOctetsResult path r (Ok octets) = IsSavedOf r octets
-SavedOctetsResult path r (Err (Write told)) = (told.now ≡ path) × PassesLimits r
+SavedOctetsResult path r (Err (Write failed)) = (failed.now ≡ path) × IsOverLimits r
 SavedOctetsResult path r (Err Memory) = Unit {0}
 SavedOctetsResult path r (Err _) = ⊥
 
 -- the file at the path could not be made or written
 abbrev pub IsUnmade : List ℕ → Fault → Type 0
-IsUnmade path (Write told) = told.now ≡ path
+IsUnmade path (Write failed) = failed.now ≡ path
 IsUnmade path _ = ⊥
 
 -- the octets that such files hold are always known
@@ -141,13 +141,13 @@ abbrev pub AreFilesKnown : {M : Type 0} → (M → Option (List ℕ)) → Type 0
 AreFilesKnown {M} contents = (file : M) → (octets : List ℕ) × (contents file ≡ Some octets)
 
 -- the file holds these octets and no others, if what such files hold is known
-abbrev pub Holds : {M : Type 0} → (M → Option (List ℕ)) → M → List ℕ → Type 0
-Holds contents file octets = AreFilesKnown contents → contents file ≡ Some octets
+abbrev pub HasOctets : {M : Type 0} → (M → Option (List ℕ)) → M → List ℕ → Type 0
+HasOctets contents file octets = AreFilesKnown contents → contents file ≡ Some octets
 
 -- no file was made if no path is given; else one that holds the octets of the saved file
 abbrev pub IsMade : {M : Type 0} → (M → Option (List ℕ)) → Finished → Option (List ℕ) → Option M → Type 0
 IsMade contents r None None = Unit {0}
-IsMade contents r (Some path) (Some file) = (octets : List ℕ) × IsSavedOf r octets × Holds contents file octets
+IsMade contents r (Some path) (Some file) = (octets : List ℕ) × IsSavedOf r octets × HasOctets contents file octets
 IsMade contents r saved made = ⊥
 
 -- if a path is given, a file was made that holds the octets of the saved file; `contents` are those of such files
@@ -161,7 +161,7 @@ IsToBeSaved (Some path) = Unit {0}
 
 -- a fault that can end saving: no memory, or the file at the path cannot be written
 abbrev pub IsOfSaving : Option (List ℕ) → Fault → Type 0
-IsOfSaving saved (Write told) = saved ≡ Some told.now
+IsOfSaving saved (Write failed) = saved ≡ Some failed.now
 IsOfSaving saved Memory = IsToBeSaved saved
 IsOfSaving saved _ = ⊥
 
@@ -191,7 +191,7 @@ AfterFinished contents r saved before after status = (answer : Result Status Fau
 
 -- a fault of the world file at a path: it cannot be read, a line is refused, or no memory was found
 abbrev pub IsOfWorld : List ℕ → Fault → Type 0
-IsOfWorld path (Read told) = told.now ≡ path
+IsOfWorld path (Read failed) = failed.now ≡ path
 IsOfWorld path (Line number) = Unit {0}
 IsOfWorld path Memory = Unit {0}
 IsOfWorld path _ = ⊥

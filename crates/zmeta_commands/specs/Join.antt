@@ -28,7 +28,7 @@ LoadFileResult file (Err _) = ⊥
 
 -- a fault of the file at a path: it cannot be read, is no saved file, or no memory was found
 abbrev pub IsOfFile : List ℕ → Fault → Type 0
-IsOfFile path (Read told) = told.now ≡ path
+IsOfFile path (Read failed) = failed.now ≡ path
 IsOfFile path (NotKnowledge at) = Unit {0}
 IsOfFile path (NotCanonical at) = Unit {0}
 IsOfFile path Memory = Unit {0}
@@ -42,7 +42,7 @@ module _ (octets : List ℕ → Option (List ℕ)) where
 
   -- the fault of the file at the path
   abbrev pub IsFaultAt : List ℕ → Fault → Type 0
-  IsFaultAt path (Read told) = told.now ≡ path
+  IsFaultAt path (Read failed) = failed.now ≡ path
   IsFaultAt path (NotKnowledge at) = IfSome (octets path) (λ file. IsNotKnowledge file at)
   IsFaultAt path (NotCanonical at) = IfSome (octets path) (λ file. IsNotCanonical file at)
   IsFaultAt path Memory = Unit {0}
@@ -124,8 +124,8 @@ abbrev pub JoinResult
     : View → (List ℕ → Option (List ℕ)) → List (List ℕ) → Device → Device → Result Status Fault → Type 0
 JoinResult view octets paths old new (Ok status) = (facts : List Fact) × (text : List ℕ)
     × IsListOf octets view paths facts text × IsKnownStatus facts status × HasGained old new text
-JoinResult view octets paths old new (Err (Write told)) = (facts : List Fact) × (text : List ℕ)
-    × IsListOf octets view paths facts text × PutFailure old new text (Write told)
+JoinResult view octets paths old new (Err (Write failed)) = (facts : List Fact) × (text : List ℕ)
+    × IsListOf octets view paths facts text × PutFailure old new text (Write failed)
 JoinResult view octets paths old new (Err Memory) = IsUnchanged old new
 JoinResult view octets paths old new (Err f) = IsRefusedAmong octets paths f × IsUnchanged old new
 

@@ -18,7 +18,7 @@ IsOfNetwork _ = ⊥
 
 -- a fault that can end running the world of the file at a path
 abbrev pub IsOfLoop : List ℕ → Fault → Type 0
-IsOfLoop path (Read told) = told.now ≡ path
+IsOfLoop path (Read failed) = failed.now ≡ path
 IsOfLoop path (Line number) = Unit {0}
 IsOfLoop path (Query kind at) = Unit {0}
 IsOfLoop path Wanted = Unit {0}

@@ -29,14 +29,14 @@ IsChosenSyntax _ _ = ⊥
 
 -- the text is no object identifier, and names none
 abbrev pub IsNoOid : Option (List ℕ) → List ℕ → Type 0
-IsNoOid None told = ⊥
-IsNoOid (Some text) told =
-    (told ≡ text) × (e : OidError) × (e ≢ oids.Memory) × DottedResult (dotted_syntax text) (Err e)
+IsNoOid None syntax = ⊥
+IsNoOid (Some text) syntax =
+    (syntax ≡ text) × (e : OidError) × (e ≢ oids.Memory) × DottedResult (dotted_syntax text) (Err e)
 
 -- the object identifier of the text, or why it is refused
 abbrev pub SyntaxResult : Option (List ℕ) → Result (Option (List ℕ)) Fault → Type 0
 SyntaxResult text (Ok oid) = IsChosenSyntax text oid
-SyntaxResult text (Err (NotOid told)) = IsNoOid text told.now
+SyntaxResult text (Err (NotOid syntax)) = IsNoOid text syntax.now
 SyntaxResult text (Err Memory) = Unit {0}
 SyntaxResult text (Err _) = ⊥
 

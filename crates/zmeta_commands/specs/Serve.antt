@@ -34,7 +34,7 @@ ServeWorldResult name count world (Err _) = ⊥
 
 -- a fault that can end serving a target of the file at a path
 abbrev pub IsOfService : List ℕ → Fault → Type 0
-IsOfService path (Read told) = told.now ≡ path
+IsOfService path (Read failed) = failed.now ≡ path
 IsOfService path (Line number) = Unit {0}
 IsOfService path Serve = Unit {0}
 IsOfService path Memory = Unit {0}

@@ -17,7 +17,7 @@ use crate::records::{Extract, SavedFiles, records_named};
 use crate::run::run_named;
 use crate::serve::{Service, serve_named};
 use crate::show::show;
-use crate::usage::tell;
+use crate::usage::print_usage;
 use clap::Error;
 use std::alloc::Global;
 use std::io::{ErrorKind, Read, Write};
@@ -95,7 +95,7 @@ fn answer<'a, S: Folder + Net + Clock, R: Read, W: Write, E: Write, P: Write + D
 {
     match asked {
         Ok(asked) => call(alloc, system, asked, input, output, errors, screen),
-        Err(error) => tell(alloc, &error, output, errors),
+        Err(error) => print_usage(alloc, &error, output, errors),
     }
 }
 
@@ -114,7 +114,7 @@ fn refuse<'a, W: Write, E: Write>(
         return Fault::Memory.report(errors);
     }
     match odd_arguments(alloc) {
-        Ok(error) => tell(alloc, &error, output, errors),
+        Ok(error) => print_usage(alloc, &error, output, errors),
         Err(_) => Fault::Memory.report(errors),
     }
 }

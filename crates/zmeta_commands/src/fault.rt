@@ -276,7 +276,7 @@ impl Fault<'_> {
         ensures reported { AfterTell (output_device E.contents errors.old)
             (output_device E.contents errors.new) self.now }
     {
-        errors.tell(self);
+        errors.write_fault(self);
         self.status()
     }
 }

@@ -3,7 +3,7 @@
 ghost use Rattle.std.specs.Prelude.{◌≡◌, IfOk, IfErr, MatchResult, Ok, Err};
 ghost use Rattle.std.specs.Option.{option_map};
 ghost use Rattle.zmeta_commands.specs.Devices.{outputs};
-ghost use Rattle.zmeta_commands.specs.Finished.{HasNames, IsListed, PutFinishedResult, IsOfSaving, SavedOctetsResult, IsUnmade, Holds, IsMade, FinishResult, AfterAsked};
+ghost use Rattle.zmeta_commands.specs.Finished.{HasNames, IsListed, PutFinishedResult, IsOfSaving, SavedOctetsResult, IsUnmade, HasOctets, IsMade, FinishResult, AfterAsked};
 
 use crate::failures::failure_lines;
 use crate::fault::{Fault, Status, end};
@@ -106,7 +106,7 @@ fn saved_octets<'a>(alloc: Global, path: &'a str, finished: &Finished) -> Result
 ///
 /// An older file at the path is lost. So the caller has the octets in memory first, and `Memory` empties no file.
 fn make_file<'a, F: Folder>(files: &F, path: &'a str, octets: &[u8]) -> Result<F::Made, Fault<'a>>
-    ensures made { IfOk result (λ file. Holds F.Made.contents file octets.now) }
+    ensures made { IfOk result (λ file. HasOctets F.Made.contents file octets.now) }
     ensures refused { IfErr result (IsUnmade path.entry.now) }
 {
     let Ok(file) = files.create(path) else {

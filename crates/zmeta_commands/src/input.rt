@@ -46,14 +46,18 @@ impl<'a, R: Read> Input<'a, R> {
     ///
     /// Whatever the result, octets are only taken from the front of the stream.
     pub fn read_all(&mut self, alloc: Global) -> Result<Vec<u8>, Fault<'a>>
+        // on success
         ensures whole { IfOk result (λ v. IfSome (R.remaining self.old.reader) (λ xs. v.items ≡ xs)) }
         ensures end { OnOk result (IsAtEnd (R.remaining self.new.reader)) }
         ensures short { IfOk result (λ v. vec_len v ≤ 4096 * 1000000) }
         ensures sound { OnOk result (self.new.has_failed ≡ self.old.has_failed) }
+        // the path, and the faults
         ensures path { self.new.path ≡ self.old.path }
         ensures err { IfErr result (λ f. ((f ≡ Fault.Read self.old.path) × (self.new.has_failed ≡ true))
             ⊎ (f ≡ Fault.Memory)) }
+        // in each case
         ensures rest { HasLostFront (R.remaining self.old.reader) (R.remaining self.new.reader) }
+        // if no memory is found
         ensures kept { result ≡ Err Fault.Memory → self.new.has_failed ≡ self.old.has_failed }
     {
         let answer = read_pieces(alloc, &mut self.reader, self.path);

@@ -57,7 +57,7 @@ impl<'a, W: Write> Output<'a, W> {
     }
 
     /// Writes the line that reports a fault. A failure only sets `has_failed`.
-    pub fn tell(&mut self, fault: &Fault<'_>)
+    pub fn write_fault(&mut self, fault: &Fault<'_>)
         ensures { AfterTell (output_device W.contents self.old) (output_device W.contents self.new) fault.now }
     {
         if writeln!(self.writer, "zmeta: {fault}").is_err() {

@@ -11,7 +11,7 @@ use std::io::Write;
 
 /// Writes `clap`'s text and returns the status. Wrong arguments are reported on `errors`, and help is printed on
 /// `output`.
-pub(crate) fn tell<'a, W: Write, E: Write>(
+pub(crate) fn print_usage<'a, W: Write, E: Write>(
     alloc: Global,
     error: &Error,
     output: &mut Output<'a, W>,

@@ -74,7 +74,9 @@ pub(crate) fn ran_line<S: Folder + Net + Clock>(
     line: &str,
     input: &[u8],
 ) -> Result<Outcome, AllocError> {
-    let words = words_of(alloc, line)?;
+    let Ok(words) = words_of(alloc, line) else {
+        return Err(AllocError);
+    };
     Ok(ran(alloc, system, Ok(words.as_slice()), input))
 }
 
@@ -84,7 +86,9 @@ fn text(alloc: Global, text: &str) -> Result<Vec<u8>, Unread> {
 }
 
 fn is_text(alloc: Global, found: &[u8], due: &str) -> Result<bool, Unread> {
-    let due = text(alloc, due)?;
+    let Ok(due) = text(alloc, due) else {
+        return Err(Unread);
+    };
     Ok(found == due.as_slice())
 }
 
@@ -92,10 +96,16 @@ fn is_text(alloc: Global, found: &[u8], due: &str) -> Result<bool, Unread> {
 pub(crate) fn is_due(alloc: Global, ran: &Outcome, due: &str) -> Result<bool, Unread> {
     let (status, texts) = split_row(due, " > ");
     let (printed, told) = split_row(texts, " > ");
-    let is_status = ran.status.code() == status.parse::<u8>()?;
-    let is_printed = is_text(alloc, ran.printed.as_slice(), printed)?;
-    let is_told = is_text(alloc, ran.told.as_slice(), told)?;
-    Ok(is_status && is_printed && is_told)
+    let Ok(due_status) = status.parse::<u8>() else {
+        return Err(Unread);
+    };
+    let Ok(is_printed) = is_text(alloc, ran.printed.as_slice(), printed) else {
+        return Err(Unread);
+    };
+    let Ok(is_told) = is_text(alloc, ran.told.as_slice(), told) else {
+        return Err(Unread);
+    };
+    Ok(ran.status.code() == due_status && is_printed && is_told)
 }
 
 /// Whether the words of a line do on these files what is due of it in its row.
@@ -105,7 +115,9 @@ pub(crate) fn is_done_in<S: Folder + Net + Clock>(
     row: &str,
 ) -> Result<bool, Unread> {
     let (line, due) = halves(row);
-    let ran = ran_line(alloc, system, line, b"")?;
+    let Ok(ran) = ran_line(alloc, system, line, b"") else {
+        return Err(Unread);
+    };
     is_due(alloc, &ran, due)
 }
 

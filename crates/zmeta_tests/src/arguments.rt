@@ -34,9 +34,13 @@ zmeta|join|a|--hex|b|c => Join { first: \"a\", others: [\"b\", \"c\"], view: Hex
 ";
 
 fn command_text(alloc: Global, line: &str) -> Result<String, Unread> {
-    let words = words_of(alloc, line)?;
-    let asked = read(parse(alloc, words.as_slice()))?;
-    Ok(format!(in alloc; "{asked:?}")?)
+    let Ok(words) = words_of(alloc, line) else {
+        return Err(Unread);
+    };
+    let Ok(asked) = parse(alloc, words.as_slice()) else {
+        return Err(Unread);
+    };
+    read(format!(in alloc; "{asked:?}"))
 }
 
 fn is_asked(alloc: Global, row: &str) -> Result<bool, Unread> {
@@ -46,5 +50,5 @@ fn is_asked(alloc: Global, row: &str) -> Result<bool, Unread> {
 
 #[test]
 fn shows(rt: HostRuntime) -> Result<(), Fail> {
-    each_row(rt.alloc(), ASKED, &is_asked)
+    each_row(rt.alloc(), ASKED, is_asked)
 }

@@ -83,7 +83,9 @@ fn status_of(line: &str) -> Status {
 // Whether a fault is told in this line, behind the program's name.
 fn is_line(alloc: Global, fault: Fault<'_>, line: &str) -> Result<bool, AllocError> {
     let (status, told) = report(alloc, fault);
-    let due = format!(in alloc; "zmeta: {line}\n")?;
+    let Ok(due) = format!(in alloc; "zmeta: {line}\n") else {
+        return Err(AllocError);
+    };
     Ok(told.as_slice() == due.as_bytes() && status == status_of(line))
 }
 
@@ -155,7 +157,9 @@ const FAILURES: [(State, &[u8]); 7] = [
 // Whether the line of a target in this state is this one.
 fn is_failure(alloc: Global, state: State, line: &[u8]) -> Result<bool, AllocError> {
     let mut text = Vec::new(alloc);
-    put_failure(alloc, &Bytes::from_static(b"a \"b"), state, &mut text)?;
+    if put_failure(alloc, &Bytes::from_static(b"a \"b"), state, &mut text).is_err() {
+        return Err(AllocError);
+    }
     Ok(text.as_slice() == line)
 }
 

@@ -23,7 +23,7 @@ zmeta|run|asked|--save|none => 3 > target \"a\" set 1 count 0%0a > zmeta: cannot
 
 #[test]
 fn what_fails_is_told(rt: HostRuntime) -> Result<(), Fail> {
-    each_row(rt.alloc(), LINES, &is_done)
+    each_row(rt.alloc(), LINES, is_done)
 }
 
 // Whether this was told, and nothing printed.

@@ -3,7 +3,7 @@ use Rattle.std.proofs.Common.{◌≡◌, ◌∙◌, sym, subst, inl, inr, ◌⊎
 use Rattle.std.specs.Io.KnownBytes.{Appends, Consumes}
 use Rattle.std.proofs.KnownBytes.{Consumes-trans, Consumes-nil, Appends-trans, Appends-nil}
 use Rattle.ztarget.specs.Receiving.{may_release}
-use Rattle.zoom_pool.specs.Hosts.{HostState, HostAfter, Holdings, HostEvent, HostFed, HostFedPart, Released, Lost, HostHandedOut, HostRecorded, HasNone, ReleaseResult}
+use Rattle.zoom_pool.specs.Hosts.{HostState, HostAfter, Holdings, HostEvent, HostFed, HostFedPart, Released, Lost, HostHandedOut, HostRecorded, HasNoReply, ReleaseResult}
 use Rattle.zoom_io.specs.Devices.{DeviceState, HasNoFailure}
 use Rattle.zoom_io.specs.TalkTraces.{same}
 use Rattle.zoom_io.specs.declared.replies.AnswerError.{AnswerError}
@@ -76,7 +76,7 @@ releases_on n old new r left held = record {
 }
 
 -- Nothing more may be released, so no reply is left.
-none_left : (mid new : HostState) → HasNone mid 0 new → LeavesNoReply new
+none_left : (mid new : HostState) → HasNoReply mid 0 new → LeavesNoReply new
 none_left mid new none = subst LeavesNoReply (sym none.1) (by none.0)
   where
     by : (mid.stopped ≡ true) ⊎ (may_release mid.target.pending 0 ≡ false) → LeavesNoReply mid

@@ -12,7 +12,7 @@ use Rattle.zoom_pool.specs.Links.{Links}
 use Rattle.zoom_pool.specs.History.{History, events_on, AfterUpTo}
 use Rattle.zoom_pool.specs.Metas.{MetaLinks, MetaAfterUpTo, call_events, settings_of}
 use Rattle.zoom_pool.proofs.Pools.{only_same, only_other, only_append}
-use Rattle.zoom_io.specs.TalkTraces.{Stage, TalkTrace, beginning, due_sent, message_taken, none_taken, stop_taken, piece_read, input_end, IsIdle, IsAllHandedOut, IsNextStep, IsStoppedAt}
+use Rattle.zoom_io.specs.TalkTraces.{Stage, TalkTrace, beginning, due_sent, message_taken, none_taken, stop_taken, piece_read, input_end, IsIdleConnection, IsAllHandedOut, IsNextStep, IsStoppedAt}
 
 -- ---- events of one connection
 
@@ -88,7 +88,7 @@ after_alike q s partial h k meta alike a = record {
   size = a.size;
 }
 
-pub idle_alike : (q : List Question) (s : MetaSettings) (c : ℕ) (h k : History) → events_on c h ≡ events_on c k → IsIdle q s c h → IsIdle q s c k
+pub idle_alike : (q : List Question) (s : MetaSettings) (c : ℕ) (h k : History) → events_on c h ≡ events_on c k → IsIdleConnection q s c h → IsIdleConnection q s c k
 idle_alike q s c h k e idle question p asks transcript = idle question p asks (transcript_alike (settings_of s) c h k p e transcript)
 
 pub handed_out_alike : (s : MetaSettings) (c : ℕ) (h k : History) → events_on c h ≡ events_on c k → IsAllHandedOut s c h → IsAllHandedOut s c k

@@ -40,8 +40,7 @@ kept c n stage a b l l2 l3 k k2 one still q s partial h x =
       read = t.read;
       written = t.written;
       trace = t.trace;
-      after = t.after;
-      stands = t.stands;
+      known = t.known;
       consumed = Consumes-kept l.octets l2.octets l3.octets t.read t.consumed still;
       appended = t.appended;
     }
@@ -56,8 +55,7 @@ fed_on c old new piece l l2 recorded consumed sound some few held = record {
     read = t.read ++ piece;
     written = t.written;
     trace = piece_read piece t.trace some few;
-    after = recorded q s partial (t.more ++ h) t.after;
-    stands = tt;
+    known = (recorded q s partial (t.more ++ h) t.known.0, tt);
     consumed = Consumes-trans source.octets l.octets l2.octets t.read piece t.consumed consumed;
     appended = t.appended;
   };
@@ -74,7 +72,7 @@ pub ends_over : (c n turns : ℕ) (a b d : MetaLinks) (l l2 k k2 k3 : DeviceStat
 ends_over c n turns a b d l l2 k k2 k3 few one true s e = record {
   on = λ q s' partial h x.
       let t = (s l2).on q s' partial h n l k (one.on q s' partial h x) in
-      record { reads = n; stage = Over; talk = t; at = few; over = t.stands };
+      record { reads = n; stage = Over; talk = t; at = few; over = t.known.1 };
   blamed = (one.reader, (s l2).writer ∙ one.writer);
   stopped = tt;
 }
@@ -102,14 +100,27 @@ ends_unsettled c n turns a b d l l2 k k2 k3 few one pushes.Memory off broken = r
   stopped = tt;
 }
 
+stopped_talk : (c n : ℕ) (stage : Stage) (reason : Reason) (b d : MetaLinks) (l l2 k k2 : DeviceState)
+    (q : List Question) (s : MetaSettings) (partial : List ℕ) (h : History)
+    → Talk q s partial c h n stage b l l2 k k2 → MetaRecorded c (Stopped reason) b d
+    → StoppedTalk q s partial c h n stage reason d l l2 k k2
+stopped_talk c n stage reason b d l l2 k k2 q s partial h t recorded = record {
+  more = t.more;
+  read = t.read;
+  written = t.written;
+  trace = t.trace;
+  known = ((b, t.known), recorded q s partial (t.more ++ h) t.known.0);
+  consumed = t.consumed;
+  appended = t.appended;
+}
+
 stopped_by : (c n : ℕ) (stage : Stage) (reason : Reason) (a b d : MetaLinks) (l l2 k k2 : DeviceState)
     → ((q : List Question) (s : MetaSettings) (partial : List ℕ) (h : History) → MetaAfterUpTo q s partial h a → Talk q s partial c h n stage b l l2 k k2)
     → MetaRecorded c (Stopped reason) b d
     → (q : List Question) (s : MetaSettings) (partial : List ℕ) (h : History) → MetaAfterUpTo q s partial h a
     → StoppedTalk q s partial c h n stage reason d l l2 k k2
 stopped_by c n stage reason a b d l l2 k k2 talk recorded q s partial h x =
-    let t = talk q s partial h x in
-    record { meta = b; talk = t; after = recorded q s partial (t.more ++ h) t.after }
+    stopped_talk c n stage reason b d l l2 k k2 q s partial h (talk q s partial h x) recorded
 
 -- As many reads gave octets as the limit allows.
 pub ends_at_limit : (c n : ℕ) (a b d : MetaLinks) (l l2 k k2 : DeviceState) → Begun c n Waiting a b l l2 k k2
@@ -185,8 +196,8 @@ module _ (c n turns : ℕ) (a b : MetaLinks) (l l2 l3 k k2 : DeviceState) (few :
             reads = n;
             stage = Ended;
             talk = t;
-            at = (few, end, λ p transcript. sym (f.1 q s partial (t.more ++ h) p t.after transcript));
-            over = t.stands;
+            at = (few, end, λ p transcript. sym (f.1 q s partial (t.more ++ h) p t.known.0 transcript));
+            over = t.known.1;
           };
       blamed = (still.failures ∙ one.reader, one.writer);
       stopped = tt;
@@ -197,9 +208,17 @@ module _ (c n turns : ℕ) (a b : MetaLinks) (l l2 l3 k k2 : DeviceState) (few :
           record {
             reads = n;
             few = few;
-            stopped = record { meta = f.0.0; talk = t; after = f.0.3 q s partial (t.more ++ h) t.after };
+            stopped = record {
+              more = t.more;
+              read = t.read;
+              written = t.written;
+              trace = t.trace;
+              known = ((f.0.0, t.known), f.0.3 q s partial (t.more ++ h) t.known.0);
+              consumed = t.consumed;
+              appended = t.appended;
+            };
             cut = λ p transcript.
-                cut_off (state_at p) (t.stands p transcript) (sym (f.0.2 q s partial (t.more ++ h) p t.after transcript));
+                cut_off (state_at p) (t.known.1 p transcript) (sym (f.0.2 q s partial (t.more ++ h) p t.known.0 transcript));
           };
       blamed = (end, still.failures ∙ one.reader, one.writer);
       stopped = f.1;
@@ -256,14 +275,16 @@ pub goes_ended : OneInput → (c : ℕ) (old mid new : MetaLinks) → MetaRecord
     → MetaTakeStep c mid new → TalkStepAlone c Waiting Ended old new
 goes_ended meeting c old mid new recorded took left held = record {
   on = λ q s partial h n source sink t.
-      let a : MetaAfterUpTo q s partial ((c, InputEnded) ∷ (t.more ++ h)) mid = recorded q s partial (t.more ++ h) t.after in
+      let a : MetaAfterUpTo q s partial ((c, InputEnded) ∷ (t.more ++ h)) mid = recorded q s partial (t.more ++ h) t.known.0 in
       record {
         more = (c, Took) ∷ (c, InputEnded) ∷ t.more;
         read = t.read;
         written = t.written;
         trace = input_end t.trace;
-        after = took_within c mid new took q s partial ((c, InputEnded) ∷ (t.more ++ h)) a;
-        stands = ends_stopped meeting t.trace refl;
+        known = (
+          took_within c mid new took q s partial ((c, InputEnded) ∷ (t.more ++ h)) a,
+          ends_stopped meeting t.trace refl,
+        );
         consumed = t.consumed;
         appended = t.appended;
       };

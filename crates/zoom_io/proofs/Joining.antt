@@ -71,9 +71,11 @@ talk_last q s partial c h now reads stage first last old stands a t = record {
   read = t.read;
   written = t.written;
   trace = follows_alike (rest c now h) (sym (rest_mine c now h)) t.trace;
-  after = after_alike q s partial now (t.more ++ rest c now h) old
-      (reordered c t.more now h t.mine (λ i far. others_follow i t.trace far)) a;
-  stands = stands (t.more ++ rest c now h);
+  known = (
+    after_alike q s partial now (t.more ++ rest c now h) old
+        (reordered c t.more now h t.known (λ i far. others_follow i t.trace far)) a,
+    stands (t.more ++ rest c now h),
+  );
   consumed = t.consumed;
   appended = t.appended;
 }
@@ -88,17 +90,17 @@ goes_among q s partial c h now reads from to f first before last old new stands 
     (talk_last q s partial c h now reads from first before old stands a t) in
     record {
       later = next.more ++ rest c now h;
-      after = next.after;
+      after = next.known.0;
       talk = record {
         more = next.more;
         read = next.read;
         written = next.written;
         trace = follows_alike h (rest_mine c now h) next.trace;
-        mine = behind c next.more (rest c now h) h (rest_mine c now h);
+        known = behind c next.more (rest c now h) h (rest_mine c now h);
         consumed = next.consumed;
         appended = next.appended;
       };
-      stands = next.stands;
+      stands = next.known.1;
       others = λ i far. before_rest c i next.more now h far (others_follow i next.trace far);
     }
 
@@ -111,7 +113,7 @@ kept q s c h now reads stage first before last still same t = record {
   read = t.read;
   written = t.written;
   trace = t.trace;
-  mine = t.mine;
+  known = t.known;
   consumed = Consumes-kept first.source.octets before.source.octets last.source.octets t.read t.consumed still;
   appended = subst (λ z. Appends first.sink.octets z.octets t.written) (sym same) t.appended;
 }
@@ -125,7 +127,7 @@ stopped q s c h now reads stage reason first last t = record {
   read = t.read;
   written = t.written;
   trace = t.trace;
-  mine = one_more c (Stopped reason) now (t.more ++ h) t.mine;
+  known = one_more c (Stopped reason) now (t.more ++ h) t.known;
   consumed = t.consumed;
   appended = t.appended;
 }
@@ -243,7 +245,7 @@ module _ (c n turns : ℕ) (le : n ≤ turns) (old new : MetaLinks) (before : Vi
           let less : g.reads ≤ n = g.few in
           record {
             later = (c, Stopped reasons.Write) ∷ (given ++ base);
-            after = b.after;
+            after = b.known;
             among = record {
               reads = g.reads;
               polls = n;
@@ -257,7 +259,7 @@ module _ (c n turns : ℕ) (le : n ≤ turns) (old new : MetaLinks) (before : Vi
                     written = b.written;
                     octets = b.octets;
                     trace = follows_alike h (rest_mine c now h) b.trace;
-                    mine = one_more c (Stopped reasons.Write) (given ++ base) (given ++ h)
+                    known = one_more c (Stopped reasons.Write) (given ++ base) (given ++ h)
                         (behind c given base h (rest_mine c now h));
                     consumed = b.consumed;
                     before = b.before;
@@ -387,7 +389,7 @@ module _ (c n turns : ℕ) (lt : n < turns) (old new : MetaLinks) (before : View
               polled = polled_same counted first g.polled;
               ended = input_ended t
                   (λ p transcript.
-                  sym (f.1 q s partial w.later p w.after (transcript_alike (settings_of s) c w.later (t.more ++ h) p t.mine transcript)))
+                  sym (f.1 q s partial w.later p w.after (transcript_alike (settings_of s) c w.later (t.more ++ h) p t.known transcript)))
                   (end, (n, lt, polled_same counted first g.polled))
                   (record { reader = rests.failures ∙ g.reader; writer = g.writer });
               over = w.stands;
@@ -407,7 +409,7 @@ module _ (c n turns : ℕ) (lt : n < turns) (old new : MetaLinks) (before : View
           let t = w.talk in
           let less : g.reads ≤ n = g.few in
           let cut : IsCutOff s c (t.more ++ h) = λ p transcript.
-          let then = transcript_alike (settings_of s) c w.later (t.more ++ h) p t.mine transcript in
+          let then = transcript_alike (settings_of s) c w.later (t.more ++ h) p t.known transcript in
           cut_off (state_at p) (w.stands p then) (sym (f.0.2 q s partial w.later p w.after then)) in
           record {
             later = (c, Stopped reasons.Ended) ∷ w.later;
@@ -424,7 +426,7 @@ module _ (c n turns : ℕ) (lt : n < turns) (old new : MetaLinks) (before : View
                     read = t.read;
                     written = t.written;
                     trace = t.trace;
-                    mine = one_more c (Stopped reasons.Ended) w.later (t.more ++ h) t.mine;
+                    known = one_more c (Stopped reasons.Ended) w.later (t.more ++ h) t.known;
                     consumed = t.consumed;
                     appended = t.appended;
                   })

@@ -59,7 +59,7 @@ module _ (hearing : OneTranscript) (E : Type 0) (c n : ℕ) (old mid new : MetaL
         → (left : DeviceState) → TalkStep c Due Listening same old new left left sink held
     sent_on sink held recorded appended sound left = record {
       on = λ q s partial h reads source first t.
-          let d : CompleteDrive q s partial c (t.more ++ h) n mid = drove q s partial (t.more ++ h) t.after in
+          let d : CompleteDrive q s partial c (t.more ++ h) n mid = drove q s partial (t.more ++ h) t.known.0 in
           let calls = d.progress.calls in
           let all = all_handed_out hearing q s partial c (call_events c calls ++ (t.more ++ h)) mid lt d.progress.after in
           record {
@@ -68,9 +68,11 @@ module _ (hearing : OneTranscript) (E : Type 0) (c n : ℕ) (old mid new : MetaL
             written = t.written ++ octets;
             trace = due_sent calls octets t.trace
                 (λ question p asks transcript. (d.rests question p asks transcript, d.tried p transcript)) all;
-            after = spoken q s partial h t.more calls octets
-                (recorded q s partial (call_events c calls ++ (t.more ++ h)) d.progress.after);
-            stands = tt;
+            known = (
+              spoken q s partial h t.more calls octets
+                  (recorded q s partial (call_events c calls ++ (t.more ++ h)) d.progress.after),
+              tt,
+            );
             consumed = t.consumed;
             appended = Appends-trans first.octets sink.octets held.octets t.written octets t.appended appended;
           };
@@ -83,7 +85,7 @@ module _ (hearing : OneTranscript) (E : Type 0) (c n : ℕ) (old mid new : MetaL
         → WriteFailureStep c Due old new sink held
     sent_broken sink held write_failed_after front failed = record {
       on = λ q s partial h reads source left first t.
-          let d : CompleteDrive q s partial c (t.more ++ h) n mid = drove q s partial (t.more ++ h) t.after in
+          let d : CompleteDrive q s partial c (t.more ++ h) n mid = drove q s partial (t.more ++ h) t.known.0 in
           let calls = d.progress.calls in
           let all = all_handed_out hearing q s partial c (call_events c calls ++ (t.more ++ h)) mid lt d.progress.after in
           record {
@@ -93,7 +95,7 @@ module _ (hearing : OneTranscript) (E : Type 0) (c n : ℕ) (old mid new : MetaL
             octets = octets;
             trace = due_sent calls octets t.trace
                 (λ question p asks transcript. (d.rests question p asks transcript, d.tried p transcript)) all;
-            after = subst (λ z. MetaAfterUpTo q s partial ((c, Stopped reasons.Write) ∷ (c, HandedOut octets) ∷ z) new)
+            known = subst (λ z. MetaAfterUpTo q s partial ((c, Stopped reasons.Write) ∷ (c, HandedOut octets) ∷ z) new)
                 (sym (append_assoc (call_events c calls) t.more h))
                 (write_failed_after q s partial (call_events c calls ++ (t.more ++ h)) d.progress.after);
             consumed = t.consumed;
@@ -111,7 +113,7 @@ pub halts_same : (c : ℕ) (from : Stage) (old new : MetaLinks) → new ≡ old 
 halts_same c from old new e held q s partial h n source left sink t = record {
   more = t.more;
   others = λ i far. others_follow i t.trace far;
-  after = more_partial q s partial c (t.more ++ h) new (subst (MetaAfterUpTo q s partial (t.more ++ h)) (sym e) t.after);
+  after = more_partial q s partial c (t.more ++ h) new (subst (MetaAfterUpTo q s partial (t.more ++ h)) (sym e) t.known.0);
 }
 
 -- A take was not completed.
@@ -120,7 +122,7 @@ pub halts_keeps : (c : ℕ) (from : Stage) (old new : MetaLinks) → MetaIncompl
 halts_keeps c from old new keeps held q s partial h n source left sink t = record {
   more = t.more;
   others = λ i far. others_follow i t.trace far;
-  after = keeps q s partial (t.more ++ h) t.after;
+  after = keeps q s partial (t.more ++ h) t.known.0;
 }
 
 -- A take after the end of the input was not completed.
@@ -129,7 +131,7 @@ pub halts_ended : (c : ℕ) (from : Stage) (old mid new : MetaLinks) → MetaRec
 halts_ended c from old mid new recorded keeps held q s partial h n source left sink t = record {
   more = (c, InputEnded) ∷ t.more;
   others = λ i far. only_other c i InputEnded t.more far ∙ others_follow i t.trace far;
-  after = keeps q s partial ((c, InputEnded) ∷ (t.more ++ h)) (recorded q s partial (t.more ++ h) t.after);
+  after = keeps q s partial ((c, InputEnded) ∷ (t.more ++ h)) (recorded q s partial (t.more ++ h) t.known.0);
 }
 
 -- Calls were made.
@@ -137,7 +139,7 @@ halts_made : (c : ℕ) (from : Stage) (old new : MetaLinks)
     → ((q : List Question) (s : MetaSettings) (partial : List ℕ) (h : History) → MetaAfterUpTo q s partial h old → (m : ℕ) × Progress q s partial c h m new)
     → HaltStepAlone c from old new
 halts_made c from old new drove held q s partial h n source left sink t =
-    let d = (drove q s partial (t.more ++ h) t.after).1 in
+    let d = (drove q s partial (t.more ++ h) t.known.0).1 in
     record {
       more = call_events c d.calls ++ t.more;
       others = λ i far.
@@ -206,8 +208,7 @@ begun c m source sink = record {
     read = [];
     written = [];
     trace = beginning;
-    after = a;
-    stands = tt;
+    known = (a, tt);
     consumed = Consumes-nil source.octets;
     appended = Appends-nil sink.octets;
   };

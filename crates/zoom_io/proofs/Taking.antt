@@ -186,9 +186,11 @@ module _ (hearing : OneTranscript) (meeting : OneInput) (c : ℕ) (old new : Met
         more = (c, Took) ∷ t.more;
         read = t.read;
         written = t.written;
-        trace = trace q s partial h t.more t.read t.written reads t.after t.trace;
-        after = took_within c old new took q s partial (t.more ++ h) t.after;
-        stands = stands q s partial (t.more ++ h) t.after;
+        trace = trace q s partial h t.more t.read t.written reads t.known.0 t.trace;
+        known = (
+          took_within c old new took q s partial (t.more ++ h) t.known.0,
+          stands q s partial (t.more ++ h) t.known.0,
+        );
         consumed = t.consumed;
         appended = t.appended;
       };

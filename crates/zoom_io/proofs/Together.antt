@@ -33,19 +33,20 @@ module _ (q : List Question) (s : MetaSettings) (c : ℕ) (h now later : History
       read = t.read;
       written = t.written;
       trace = t.trace;
-      mine = e ∙ t.mine;
+      known = e ∙ t.known;
       consumed = t.consumed;
       appended = t.appended;
     }
 
-    stopped_same : {reads : ℕ} {stage : Stage} {reason : Reason} → StoppedTalkAmong q s c h now reads stage reason first last
+    stopped_same : {reads : ℕ} {stage : Stage} (reason : Reason)
+        → StoppedTalkAmong q s c h now reads stage reason first last
         → StoppedTalkAmong q s c h later reads stage reason first last
-    stopped_same t = record {
+    stopped_same reason t = record {
       more = t.more;
       read = t.read;
       written = t.written;
       trace = t.trace;
-      mine = e ∙ t.mine;
+      known = e ∙ t.known;
       consumed = t.consumed;
       appended = t.appended;
     }
@@ -57,7 +58,7 @@ module _ (q : List Question) (s : MetaSettings) (c : ℕ) (h now later : History
       written = b.written;
       octets = b.octets;
       trace = b.trace;
-      mine = e ∙ b.mine;
+      known = e ∙ b.known;
       consumed = b.consumed;
       before = b.before;
       appended = b.appended;
@@ -74,12 +75,12 @@ module _ (q : List Question) (s : MetaSettings) (c : ℕ) (h now later : History
           read = t.read;
           written = t.written;
           trace = t.trace;
-          mine = e ∙ t.mine;
+          known = e ∙ t.known;
           consumed = t.consumed;
           appended = t.appended;
         })
         well end sound
-    ends_same (read_failed t failed sound) = read_failed (stopped_same t) failed sound
+    ends_same (read_failed t failed sound) = read_failed (stopped_same _ t) failed sound
     ends_same (write_failed b failed sound) = write_failed (broken_same b) failed sound
     ends_same (cut_short t cut end sound) =
         cut_short
@@ -88,12 +89,12 @@ module _ (q : List Question) (s : MetaSettings) (c : ℕ) (h now later : History
           read = t.read;
           written = t.written;
           trace = t.trace;
-          mine = e ∙ t.mine;
+          known = e ∙ t.known;
           consumed = t.consumed;
           appended = t.appended;
         })
         cut end sound
-    ends_same (out_of_turns t risen sound) = out_of_turns (stopped_same t) risen sound
+    ends_same (out_of_turns t risen sound) = out_of_turns (stopped_same _ t) risen sound
 
     goes_same : {n : ℕ} {stage : Stage} → OngoingTalkAmong q s c h now n stage first last → OngoingTalkAmong q s c h later n stage first last
     goes_same t = record {
@@ -314,7 +315,7 @@ module _ {R W : Type 0} (state : R → DeviceState) (polls : R → ℕ) (held : 
           read = [];
           written = [];
           trace = beginning;
-          mine = refl;
+          known = refl;
           consumed = Consumes-nil (state e.source).octets;
           appended = Appends-nil (held e.sink).octets;
         };

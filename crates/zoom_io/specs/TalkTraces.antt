@@ -16,7 +16,7 @@ use Rattle.zoom_pool.specs.Transcripts.{Transcript, IsTranscript, Fed, Took, Inp
 use Rattle.zoom_pool.specs.History.{History, events_on}
 use Rattle.zoom_pool.specs.Links.{stop_at}
 use Rattle.zoom_pool.specs.Steering.{errand_of}
-use Rattle.zoom_pool.specs.Metas.{MetaLinks, MetaAfterUpTo, NoneIsNext, WasTried, call_events, settings_of}
+use Rattle.zoom_pool.specs.Metas.{MetaLinks, MetaAfterUpTo, IsIdleUnlessStopped, IsSearchTried, call_events, settings_of}
 use Rattle.zoom_io.specs.Devices.{DeviceState, HasAppendedFront, HasFailed, HasNoFailure}
 use Rattle.zoom_io.specs.declared.conversation.TalkError.{TalkError}
 use Rattle.zoom_io.specs.declared.conversation.TalkError.TheVariants as errors
@@ -32,11 +32,11 @@ pub data Stage : Type 0 where
   Ended : Stage
 
 -- No call of the connection is next; if the association was accepted, its search was admitted or skipped.
-abbrev pub IsIdle : List Question → MetaSettings → ℕ → History → Type 0
-IsIdle questions s c h =
+abbrev pub IsIdleConnection : List Question → MetaSettings → ℕ → History → Type 0
+IsIdleConnection questions s c h =
     (question : Question) (p : Transcript) → slice_get questions c ≡ Some question
     → IsTranscript (settings_of s) (events_on c h) p
-    → NoneIsNext (errand_of s question) p × WasTried p
+    → IsIdleUnlessStopped (errand_of s question) p × IsSearchTried p
 
 -- Everything sent on the connection was handed out, unless a write failed before.
 abbrev pub IsAllHandedOut : MetaSettings → ℕ → History → Type 0
@@ -85,7 +85,7 @@ pub data TalkTrace (questions : List Question) (s : MetaSettings) (c : ℕ) (h :
   beginning : TalkTrace questions s c h [] [] [] 0 Due
   due_sent : {more : History} {read written : List ℕ} {reads : ℕ} (calls : List Call) (octets : List ℕ)
       → TalkTrace questions s c h more read written reads Due
-      → IsIdle questions s c (call_events c calls ++ (more ++ h))
+      → IsIdleConnection questions s c (call_events c calls ++ (more ++ h))
       → IsAllHandedOut s c ((c, HandedOut octets) ∷ (call_events c calls ++ (more ++ h)))
       → TalkTrace questions s c h ((c, HandedOut octets) ∷ (call_events c calls ++ more)) read
       (written ++ octets) reads Listening
@@ -106,20 +106,31 @@ pub data TalkTrace (questions : List Question) (s : MetaSettings) (c : ℕ) (h :
       → TalkTrace questions s c h more read written reads Waiting
       → TalkTrace questions s c h ((c, Took) ∷ (c, InputEnded) ∷ more) read written reads Ended
 
--- A talk so far: its trace after a history, what its devices gave and took, and the pool it has left. Before the talk,
--- takes of the connections `partial` may have found no memory.
-pub record Talk
-    (questions : List Question) (s : MetaSettings) (partial : List ℕ) (c : ℕ) (h : History) (reads : ℕ) (stage : Stage)
-    (meta : MetaLinks) (source left sink held : DeviceState)
+-- A talk so far: its trace after a history, what its devices gave and took, and what is known of the history with the
+-- trace.
+pub record TalkOf
+    (Known : History → Type 0) (questions : List Question) (s : MetaSettings) (c : ℕ) (h : History) (reads : ℕ)
+    (stage : Stage) (source left sink held : DeviceState)
     : Type 0 where
   pub more : History
   pub read : List ℕ
   pub written : List ℕ
   pub trace : TalkTrace questions s c h more read written reads stage
-  pub after : MetaAfterUpTo questions s partial (more ++ h) meta
-  pub stands : IsAtStage stage s c (more ++ h)
+  pub known : Known (more ++ h)
   pub consumed : Consumes source.octets left.octets read
   pub appended : Appends sink.octets held.octets written
+
+-- The history can have left these connections, and the stage stands for connection c. Before the talk, takes of the
+-- connections `partial` may have found no memory.
+abbrev pub HasLeft : List Question → MetaSettings → List ℕ → ℕ → Stage → MetaLinks → History → Type 0
+HasLeft questions s partial c stage meta h = MetaAfterUpTo questions s partial h meta × IsAtStage stage s c h
+
+-- A talk so far, and the pool it has left.
+abbrev pub Talk
+    : List Question → MetaSettings → List ℕ → ℕ → History → ℕ → Stage → MetaLinks → DeviceState → DeviceState
+    → DeviceState → DeviceState → Type 0
+Talk questions s partial c h reads stage meta source left sink held =
+    TalkOf (HasLeft questions s partial c stage meta) questions s c h reads stage source left sink held
 
 -- The talk goes from one stage to another, from every talk that leads to the old state, and no device fails.
 pub record TalkStep
@@ -162,30 +173,43 @@ pub record OutOfMemory
 
 -- ---- how it ends
 
--- The talk reached this stage, and the caller then stopped the connection for this reason.
-pub record StoppedTalk
-    (questions : List Question) (s : MetaSettings) (partial : List ℕ) (c : ℕ) (h : History) (reads : ℕ) (stage : Stage)
-    (reason : Reason) (new : MetaLinks) (source left sink held : DeviceState)
-    : Type 0 where
-  pub meta : MetaLinks
-  pub talk : Talk questions s partial c h reads stage meta source left sink held
-  pub after : MetaAfterUpTo questions s partial ((c, Stopped reason) ∷ (talk.more ++ h)) new
+-- Some connections stood at this stage, and the caller then stopped connection c for this reason.
+abbrev pub HasStopped
+    : List Question → MetaSettings → List ℕ → ℕ → Stage → Reason → MetaLinks → History → Type 0
+HasStopped questions s partial c stage reason new h =
+    ((meta : MetaLinks) × HasLeft questions s partial c stage meta h)
+    × MetaAfterUpTo questions s partial ((c, Stopped reason) ∷ h) new
 
--- A write failed: a front of the octets handed out last was written, and the connection was stopped for `Write`.
-pub record BrokenTalk
-    (questions : List Question) (s : MetaSettings) (partial : List ℕ) (c : ℕ) (h : History) (reads : ℕ)
-    (new : MetaLinks) (source left sink held : DeviceState)
+-- The talk reached this stage, and the caller then stopped the connection for this reason.
+abbrev pub StoppedTalk
+    : List Question → MetaSettings → List ℕ → ℕ → History → ℕ → Stage → Reason → MetaLinks → DeviceState
+    → DeviceState → DeviceState → DeviceState → Type 0
+StoppedTalk questions s partial c h reads stage reason new source left sink held =
+    TalkOf (HasStopped questions s partial c stage reason new) questions s c h reads stage source left sink held
+
+-- A write failed: a front of the octets handed out last was written, and this is known of the history with the trace.
+pub record BrokenTalkOf
+    (Known : History → Type 0) (questions : List Question) (s : MetaSettings) (c : ℕ) (h : History) (reads : ℕ)
+    (source left sink held : DeviceState)
     : Type 0 where
   pub more : History
   pub read : List ℕ
   pub written : List ℕ
   pub octets : List ℕ
   pub trace : TalkTrace questions s c h ((c, HandedOut octets) ∷ more) read (written ++ octets) reads Listening
-  pub after : MetaAfterUpTo questions s partial ((c, Stopped reasons.Write) ∷ (c, HandedOut octets) ∷ (more ++ h)) new
+  pub known : Known ((c, HandedOut octets) ∷ (more ++ h))
   pub consumed : Consumes source.octets left.octets read
   pub before : DeviceState
   pub appended : Appends sink.octets before.octets written
   pub front : HasAppendedFront before.octets held.octets octets
+
+-- A write failed, and the connection was stopped for `Write`.
+abbrev pub BrokenTalk
+    : List Question → MetaSettings → List ℕ → ℕ → History → ℕ → MetaLinks → DeviceState → DeviceState → DeviceState
+    → DeviceState → Type 0
+BrokenTalk questions s partial c h reads new source left sink held =
+    BrokenTalkOf (λ k. MetaAfterUpTo questions s partial ((c, Stopped reasons.Write) ∷ k) new) questions s c h reads
+    source left sink held
 
 -- How a talk ended by itself after n reads that gave octets, of at most `turns`. Over: the connection is Closed or
 -- Failed. Ended: one read more found the end of the input, and the connection ended for another reason.
@@ -214,7 +238,7 @@ pub record CutTalk
   pub reads : ℕ
   pub few : reads < turns
   pub stopped : StoppedTalk questions s partial c h reads Ended reasons.Ended new source left sink held
-  pub cut : IsCutOff s c (stopped.talk.more ++ h)
+  pub cut : IsCutOff s c (stopped.more ++ h)
 
 -- What each result of a talk says, for a history that can have left the connections before it. `Read`, `Write`: a
 -- read or a write failed. `Ended`: the input ended, and the connection was not Closing. `Turns`: `turns` reads gave

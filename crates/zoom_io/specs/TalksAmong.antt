@@ -1,19 +1,19 @@
 -- Talks that go on at once: among the events of all connections, those of each are in the order of a talk
 -- (Z39.50-2003, 3.2).
 use Rattle.std.specs.Prelude.{◌≡◌, ◌≤◌, ◌==◌, ℕ, false, List, ◌∷◌, ◌++◌, slice_get, Option, None, Some}
-use Rattle.std.specs.Io.KnownBytes.{Appends, Consumes, IsAtEnd}
+use Rattle.std.specs.Io.KnownBytes.{IsAtEnd}
 use Rattle.zoom_questions.specs.declared.question.Question.{Question}
 use Rattle.zoom_questions.specs.declared.question.MetaSettings.{MetaSettings}
 use Rattle.zoom_pool.specs.declared.state.Reason.{Reason}
 use Rattle.zoom_pool.specs.declared.state.Reason.TheVariants as reasons
-use Rattle.zoom_pool.specs.Transcripts.{HandedOut, Stopped}
+use Rattle.zoom_pool.specs.Transcripts.{Stopped}
 use Rattle.zoom_pool.specs.History.{History, events_on}
 use Rattle.zoom_pool.specs.Metas.{MetaLinks, MetaAfterUpTo}
 use Rattle.zoom_io.specs.declared.among.Halves.{Halves}
 use Rattle.zoom_io.specs.declared.among.TalkPhase.{TalkPhase}
 use Rattle.zoom_io.specs.declared.among.TalkPhase.TheVariants as phases
-use Rattle.zoom_io.specs.Devices.{DeviceState, HasAppendedFront, HasFailed, HasRisen, HasRisenBelow, HasNoFailure}
-use Rattle.zoom_io.specs.TalkTraces.{Stage, Due, Listening, Waiting, Over, Ended, TalkTrace, IsStoppedAt, HasEndedWell, IsCutOff}
+use Rattle.zoom_io.specs.Devices.{DeviceState, HasFailed, HasRisen, HasRisenBelow, HasNoFailure}
+use Rattle.zoom_io.specs.TalkTraces.{Stage, Due, Waiting, Over, Ended, TalkOf, BrokenTalkOf, IsStoppedAt, HasEndedWell, IsCutOff}
 
 -- The devices of a connection as a contract sees them, and the phase of its talk.
 pub record View : Type 0 where
@@ -29,19 +29,11 @@ view_of state polls held halves =
 
 -- ---- one connection
 
--- A talk so far: its trace after the history before it, what its devices gave and took, and no other new events of
--- the connection.
-pub record TalkAmong
-    (questions : List Question) (s : MetaSettings) (c : ℕ) (h now : History) (reads : ℕ) (stage : Stage)
-    (first last : View)
-    : Type 0 where
-  pub more : History
-  pub read : List ℕ
-  pub written : List ℕ
-  pub trace : TalkTrace questions s c h more read written reads stage
-  pub mine : events_on c now ≡ events_on c (more ++ h)
-  pub consumed : Consumes first.source.octets last.source.octets read
-  pub appended : Appends first.sink.octets last.sink.octets written
+-- A talk so far, and no other new events of its connection.
+abbrev pub TalkAmong : List Question → MetaSettings → ℕ → History → History → ℕ → Stage → View → View → Type 0
+TalkAmong questions s c h now reads stage first last =
+    TalkOf (λ k. events_on c now ≡ events_on c k) questions s c h reads stage first.source last.source first.sink
+    last.sink
 
 -- The talk goes on: its source was polled n times, and no device failed.
 pub record OngoingTalkAmong
@@ -56,32 +48,17 @@ pub record OngoingTalkAmong
   pub writer : last.sink.failures ≡ first.sink.failures
 
 -- The talk reached this stage, and the caller then stopped the connection for this reason.
-pub record StoppedTalkAmong
-    (questions : List Question) (s : MetaSettings) (c : ℕ) (h now : History) (reads : ℕ) (stage : Stage)
-    (reason : Reason) (first last : View)
-    : Type 0 where
-  pub more : History
-  pub read : List ℕ
-  pub written : List ℕ
-  pub trace : TalkTrace questions s c h more read written reads stage
-  pub mine : events_on c now ≡ events_on c ((c, Stopped reason) ∷ (more ++ h))
-  pub consumed : Consumes first.source.octets last.source.octets read
-  pub appended : Appends first.sink.octets last.sink.octets written
+abbrev pub StoppedTalkAmong
+    : List Question → MetaSettings → ℕ → History → History → ℕ → Stage → Reason → View → View → Type 0
+StoppedTalkAmong questions s c h now reads stage reason first last =
+    TalkOf (λ k. events_on c now ≡ events_on c ((c, Stopped reason) ∷ k)) questions s c h reads stage first.source
+    last.source first.sink last.sink
 
--- A write failed: a front of the octets handed out last was written, and the connection was stopped for `Write`.
-pub record BrokenTalkAmong
-    (questions : List Question) (s : MetaSettings) (c : ℕ) (h now : History) (reads : ℕ) (first last : View)
-    : Type 0 where
-  pub more : History
-  pub read : List ℕ
-  pub written : List ℕ
-  pub octets : List ℕ
-  pub trace : TalkTrace questions s c h ((c, HandedOut octets) ∷ more) read (written ++ octets) reads Listening
-  pub mine : events_on c now ≡ events_on c ((c, Stopped reasons.Write) ∷ (c, HandedOut octets) ∷ (more ++ h))
-  pub consumed : Consumes first.source.octets last.source.octets read
-  pub before : DeviceState
-  pub appended : Appends first.sink.octets before.octets written
-  pub front : HasAppendedFront before.octets last.sink.octets octets
+-- A write failed, and the connection was stopped for `Write`.
+abbrev pub BrokenTalkAmong : List Question → MetaSettings → ℕ → History → History → ℕ → View → View → Type 0
+BrokenTalkAmong questions s c h now reads first last =
+    BrokenTalkOf (λ k. events_on c now ≡ events_on c ((c, Stopped reasons.Write) ∷ k)) questions s c h reads
+    first.source last.source first.sink last.sink
 
 -- No call of the devices failed.
 pub record AreSound (first last : View) : Type 0 where

@@ -114,12 +114,15 @@ fn settle_halves<R: NonBlocking, W: Sink>(
     c: u32,
     halves: &mut Halves<R, W>,
 ) -> Result<bool, AllocError>
+    // where the talk is
     requires c { c < length meta.old.pool.connections }
     requires phase { halves.old.phase ≡ phases.Due }
+    // the step, and where it halts
     ensures steps { OnOk result ((n turns : ℕ) → n ≤ turns → StepAmong c n n turns meta.old meta.new
         (view_of R.state R.polls W.state halves.old) (view_of R.state R.polls W.state halves.new)) }
     ensures halts { OnErr result ((n turns : ℕ) → HaltAmong c n turns meta.old meta.new
         (view_of R.state R.polls W.state halves.old)) }
+    // the phase after it, and the number of connections
     ensures phase { IfOk result (λ on. halves.new.phase ≡ (if on then phases.Waiting else phases.Over)) }
     ensures size { length meta.new.pool.connections ≡ length meta.old.pool.connections }
 {

@@ -34,15 +34,19 @@ pub fn talk_at_once<R: NonBlocking, W: Sink, V: Watch>(
     turns: u32,
     watch: &mut V,
 ) -> Result<(), AllocError>
+    // the connections, and an entry for each
     requires few { length meta.old.pool.connections < 2 ^ 32 }
     requires equal { length halves.old ≡ length meta.old.pool.connections }
     requires due { AreAtPhase phases.Due halves.old }
+    // on success
     ensures talks { OnOk result (AfterTalkAtOnce (view_of R.state R.polls W.state) turns halves.old halves.new
         meta.old meta.new) }
     ensures looks { OnOk result (RoundLooks V.looks (view_of R.state R.polls W.state) turns halves.old meta.old
         watch.old watch.new) }
+    // if no memory is found
     ensures halts { OnErr result (HaltAtOnce (view_of R.state R.polls W.state) turns halves.old halves.new
         meta.old meta.new) }
+    // in each case
     ensures size { length meta.new.pool.connections ≡ length meta.old.pool.connections }
 {
     go_rounds(alloc, meta, halves, turns, watch)?;
@@ -57,15 +61,19 @@ fn go_rounds<R: NonBlocking, W: Sink, V: Watch>(
     turns: u32,
     watch: &mut V,
 ) -> Result<(), AllocError>
+    // the connections, and an entry for each
     requires few { length meta.old.pool.connections < 2 ^ 32 }
     requires equal { length halves.old ≡ length meta.old.pool.connections }
     requires due { AreAtPhase phases.Due halves.old }
+    // on success
     ensures rounds { OnOk result (AfterRounds (view_of R.state R.polls W.state) turns turns halves.old halves.new
         meta.old meta.new) }
     ensures looks { OnOk result (RoundLooks V.looks (view_of R.state R.polls W.state) turns halves.old meta.old
         watch.old watch.new) }
+    // if no memory is found
     ensures halts { OnErr result (HaltAtOnce (view_of R.state R.polls W.state) turns halves.old halves.new
         meta.old meta.new) }
+    // in each case
     ensures size { length meta.new.pool.connections ≡ length meta.old.pool.connections }
 {
     let mut idle = false;
@@ -154,12 +162,15 @@ fn leave_all<R: NonBlocking, W: Sink>(
     meta: &mut Meta,
     halves: &mut [Option<Halves<R, W>>],
 ) -> Result<(), AllocError>
+    // the connections, and an entry for each
     requires few { length meta.old.pool.connections < 2 ^ 32 }
     requires equal { length halves.old ≡ length meta.old.pool.connections }
+    // the step, and where it halts
     ensures leaves { OnOk result (AfterLeaveAll
         (view_of R.state R.polls W.state) halves.old halves.new meta.old meta.new) }
     ensures halts { OnErr result ((n : ℕ) → RoundHalt
         (view_of R.state R.polls W.state) (for_each n) n halves.old halves.new meta.old meta.new) }
+    // the phases after it, and the number of connections
     ensures over { OnOk result (AreAtPhase phases.Over halves.new) }
     ensures size { length meta.new.pool.connections ≡ length meta.old.pool.connections }
 {

@@ -20,7 +20,7 @@ use Rattle.zoom_pool.specs.Steering.{errand_of, complete_in, is_rejected, IsTrie
 use Rattle.zoom_pool.specs.Hosts.{HostState, Holdings, HostAfter, HostTranscript, IsHostTranscript, HostEvent, HostFed, HostFedPart, Released, HostHandedOut, handed_out, replies_to}
 use Rattle.zoom_pool.specs.History.{History, events_on}
 use Rattle.zoom_pool.specs.Connections.{AreReadBack}
-use Rattle.zoom_pool.specs.Metas.{MetaLinks, MetaAfter, NoneIsNext, settings_of}
+use Rattle.zoom_pool.specs.Metas.{MetaLinks, MetaAfter, IsIdleUnlessStopped, settings_of}
 use Rattle.zoom_laws.specs.Accord.{requests, IsConversation}
 
 -- the octets that were fed to the serving end, joined
@@ -246,7 +246,7 @@ EndedLaw =
     (questions : List Question) (s : MetaSettings) (h : History) (meta : MetaLinks) (c : ℕ) (q : Question)
     (p : Transcript)
     → MetaAfter questions s h meta → slice_get questions c ≡ Some q → IsTranscript (settings_of s) (events_on c h) p
-    → NoneIsNext (errand_of s q) p → p.stop ≡ None → outstanding (past_of p) ≡ []
+    → IsIdleUnlessStopped (errand_of s q) p → p.stop ≡ None → outstanding (past_of p) ≡ []
     → state_at p ≢ states.Initialising → state_at p ≢ states.Closing → is_stopped (state_at p) ≡ true
 
 -- a complete connection that was not rejected tried its search: the search was admitted or skipped

@@ -28,7 +28,7 @@ use Rattle.zoom_pool.specs.History.{History, events_on, AfterUpTo}
 use Rattle.zoom_pool.specs.PoolSteps.{Recorded, IsStateAt, IsCallResult, IsPoolFinished}
 use Rattle.zoom_pool.specs.Laws.{OneTranscript}
 use Rattle.zoom_pool.specs.Steering.{Errand, errand_of}
-use Rattle.zoom_pool.specs.Drivers.{DriverState, IsDriver, SameDriver, IsOffer, HasNoNextCall, NextCallResult, NoteSentStep, NoteRefusedStep}
+use Rattle.zoom_pool.specs.Drivers.{DriverState, IsDriver, SameDriver, IsOffer, IsIdleLog, NextCallResult, NoteSentStep, NoteRefusedStep}
 use Rattle.zoom_pool.specs.Metas.{MetaLinks, settings_of, AreDriven, MetaAfterUpTo, call_events, Progress, CompleteDrive}
 use Rattle.zoom_pool.specs.Metas.{left_of, left_at, IsGivenCall, AdvanceResultAt, AdvanceResult, IssueResult, DriveResult}
 use Rattle.zoom_pool.specs.Metas.{IsTranscriptValue, IsTranscriptValueUpTo, is_skipped, is_complete, IsFinished, IsFinishedUpTo}
@@ -352,7 +352,7 @@ idle_to E hearing c old new state was x lt is pool at ds stays gives questions s
     ∙ get_same old.drivers c x (slice_get_within old.drivers c was at) in
     let here = question_at questions s partial h old c a lt in
     let rests : (q : Question) (p : Transcript) → slice_get questions c ≡ Some q → IsTranscript (settings_of s) (events_on c h) p
-    → is_stopped (state_at p) ≡ false → HasNoNextCall (errand_of s q) p.settings p.log = λ q p asked transcript f.
+    → is_stopped (state_at p) ≡ false → IsIdleLog (errand_of s q) p.settings p.log = λ q p asked transcript f.
     gives (errand_of s q) p.settings p.log (b.driven.each c q x p asked drives transcript)
     (state_is hearing questions s partial h old c state a lt is p transcript
     ∙ origin_state (settings_of s) (events_on c h) p transcript f) in

@@ -23,7 +23,7 @@ use Rattle.zoom_pool.specs.CallsOf.{call_of}
 use Rattle.zoom_pool.specs.States.{state_as, is_stopped}
 use Rattle.zoom_pool.specs.Driving.{plan_of, DrivenLaws}
 use Rattle.zoom_pool.specs.Steering.{Errand, IsNextCall, HasFewestRanges, IsSteeredCall, room_in, may_call, is_rejected, IsTried}
-use Rattle.zoom_pool.specs.Drivers.{DriverState, IsDriver, IsAtPhase, AtFresh, AtOpening, AtOpened, AtSearching, AtAsking, AtClosed, HasOpening, HasFound, events_at, opened_events, IsOffer, IsOffered, HasNoNextCall, NextCallResult, GiveResult, IsGivenIf, NextAskedResult, IsGivenInRoom, IsFirstPresent, room_for, has_room, is_fresh_state}
+use Rattle.zoom_pool.specs.Drivers.{DriverState, IsDriver, IsAtPhase, AtFresh, AtOpening, AtOpened, AtSearching, AtAsking, AtClosed, HasOpening, HasFound, events_at, opened_events, IsOffer, IsOffered, IsIdleLog, NextCallResult, GiveResult, IsGivenIf, NextAskedResult, IsGivenInRoom, IsFirstPresent, room_for, has_room, is_fresh_state}
 use Rattle.zoom_pool.specs.Due.{DueLaws, CanAskFor}
 use Rattle.zoom_pool.proofs.Wants.{few_ranges}
 use Rattle.zoom_pool.proofs.Phases.{unready, unfresh, concurrent_by, room_ready, no_room, fresh_as, no_call, call_ready, none_due, none_next, full_next}
@@ -208,7 +208,7 @@ module _ (next : NextLaws) (laws : DrivenLaws) (due : DueLaws) (bounds : BoundLa
 -- ---- at each phase
 
 abbrev GivesHere : Errand → Settings → Log → DriverState → Option Call → Type 0
-GivesHere e settings log d None = HasNoNextCall e settings log
+GivesHere e settings log d None = IsIdleLog e settings log
 GivesHere e settings log d (Some call) = IsOffer e settings log d (call_of call)
 
 unstanding : (e : Errand) (settings : Settings) (log : Log) → HasOpening (past settings log)
@@ -232,18 +232,18 @@ found_some ask p three count h none = no_list (sym h.asked ∙ none)
 
 -- if the search was tried and no call is next, the driver gives none
 tried_rests : (e : Errand) (settings : Settings) (log : Log) → IsTried settings log
-    → ((call : origin.Call) → IsNextCall e settings log call → ⊥) → HasNoNextCall e settings log
+    → ((call : origin.Call) → IsNextCall e settings log call → ⊥) → IsIdleLog e settings log
 tried_rests e settings log tried none = record { none = none; tried = λ f o. tried }
 
 -- before Init was answered
 unopened_rests : (e : Errand) (settings : Settings) (log : Log) → opening (past settings log) ≡ None
-    → ((call : origin.Call) → IsNextCall e settings log call → ⊥) → HasNoNextCall e settings log
+    → ((call : origin.Call) → IsNextCall e settings log call → ⊥) → IsIdleLog e settings log
 unopened_rests e settings log n none = record { none = none; tried = λ f o. absurd (no_some (sym o.1 ∙ n)) }
 
 -- if the search is next but no call can be made, the driver gives none
 opened_rests : (e : Errand) (settings : Settings) (log : Log) (present three : Bool)
     → (a : AtOpened e settings log present three)
-    → has_room (room_for e.window (state_as (state_of (past settings log)))) ≡ false → HasNoNextCall e settings log
+    → has_room (room_for e.window (state_as (state_of (past settings log)))) ≡ false → IsIdleLog e settings log
 opened_rests e settings log present three a f =
     let p = past settings log in
     let closing : list_any is_close_call p.admitted ≡ false =
@@ -255,7 +255,7 @@ opened_rests e settings log present three a f =
       tried = λ going o. absurd (true≢false (sym (open_ready p a.opening closing going) ∙ unready));
     }
 
-closed_rests : (e : Errand) (settings : Settings) (log : Log) → AtClosed e settings log → HasNoNextCall e settings log
+closed_rests : (e : Errand) (settings : Settings) (log : Log) → AtClosed e settings log → IsIdleLog e settings log
 closed_rests e settings log a = record {
   none = stands_not e settings log a.closed;
   tried = λ going o. by going (is_rejected (opening (past settings log))) refl;

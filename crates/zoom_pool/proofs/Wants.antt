@@ -6,7 +6,7 @@ use Rattle.std.proofs.lemmas.Int.{ints}
 use Rattle.std.specs.Prelude.{ℤ, pos, negsuc, ◌-ℤ◌, int_lt, true, ◌&&◌, length, slice_index_or, ◌^◌}
 use Rattle.std.specs.List.{range_with_len, AllByRecursion}
 use Rattle.zplan.specs.Positions.{IsWanted, first_of}
-use Rattle.zplan.specs.Ranges.{AreWanted, ArePresentRanges, InOrder, IsBounded, span_of, places}
+use Rattle.zplan.specs.Ranges.{AreWanted, ArePresentRanges, AreInOrder, IsBounded, span_of, places}
 use Rattle.zplan.proofs.Cuts.{places_ascend}
 use Rattle.zplan.specs.declared.range.Range.{Range}
 use Rattle.zorigin.specs.Ranges.{last_of, is_range, are_ranges_after, are_ranges}
@@ -62,7 +62,7 @@ range_follows low r le one some = by r.start r.n le some
     by (pos s) (negsuc n) le some = absurd (omega arith)
     by (negsuc s) n le some = absurd (omega arith)
 
-follow_back : (low : ℕ) (rs : List Range) → 1 ≤ low → InOrder low rs → IsBounded (map span_of rs)
+follow_back : (low : ℕ) (rs : List Range) → 1 ≤ low → AreInOrder low rs → IsBounded (map span_of rs)
     → are_ranges_after (pos low -ℤ pos 1) rs ≡ true
 follow_back low [] one order bounded = refl
 follow_back low (r ∷ rs) one order bounded =

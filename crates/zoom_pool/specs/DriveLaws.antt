@@ -10,7 +10,7 @@ use Rattle.zoom_pool.specs.Transcripts.{Transcript, IsTranscript, past_of}
 use Rattle.zoom_pool.specs.History.{History, events_on}
 use Rattle.zoom_pool.specs.Steering.{Errand, errand_of, IsDriverCall}
 use Rattle.zoom_pool.specs.Drivers.{DriverState, IsDriver}
-use Rattle.zoom_pool.specs.Metas.{MetaLinks, MetaAfterUpTo, NoneIsNext, call_events, settings_of}
+use Rattle.zoom_pool.specs.Metas.{MetaLinks, MetaAfterUpTo, IsIdleUnlessStopped, call_events, settings_of}
 
 -- two calls that are the driver's after the same log are the same call, with the same ranges
 abbrev pub OneCallLaw : Type 0
@@ -20,7 +20,8 @@ OneCallLaw =
     → IsDriverCall e settings log one → IsDriverCall e settings log other → one ≡ other
 
 -- Two drives of a connection made these calls after the same history, and no call is next after either: they sent the
--- same requests, in the same order. `CompleteDrive` says this of `drive`, and the trace of a talk of each of its drives.
+-- same requests, in the same order. `CompleteDrive` says this of `drive`, and the trace of a talk of each of its
+-- drives.
 abbrev pub OneDriveLaw : Type 0
 OneDriveLaw =
     (questions : List Question) (s : MetaSettings) (some more : List ℕ) (c : ℕ) (question : Question) (h : History)
@@ -30,7 +31,7 @@ OneDriveLaw =
     → MetaAfterUpTo questions s more (call_events c others ++ h) other
     → IsTranscript (settings_of s) (events_on c (call_events c calls ++ h)) p
     → IsTranscript (settings_of s) (events_on c (call_events c others ++ h)) q
-    → NoneIsNext (errand_of s question) p → NoneIsNext (errand_of s question) q
+    → IsIdleUnlessStopped (errand_of s question) p → IsIdleUnlessStopped (errand_of s question) q
     → past_of p ≡ past_of q
 
 -- the laws of drives

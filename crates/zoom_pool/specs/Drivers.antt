@@ -227,7 +227,7 @@ pub record IsOffer (e : Errand) (settings : Settings) (log : Log) (d : DriverSta
   pub offered : IsOffered e settings log d.phase call
 
 -- No call is next; once the association was accepted, the search was tried.
-pub record HasNoNextCall (e : Errand) (settings : Settings) (log : Log) : Type 0 where
+pub record IsIdleLog (e : Errand) (settings : Settings) (log : Log) : Type 0 where
   pub none : (call : origin.Call) → IsNextCall e settings log call → ⊥
   pub tried : is_stopped (state_as (state_of (past settings log))) ≡ false → HasOpening (past settings log)
       → IsTried settings log
@@ -236,7 +236,7 @@ pub record HasNoNextCall (e : Errand) (settings : Settings) (log : Log) : Type 0
 abbrev pub NextCallResult : State → Option Call → DriverState → Type 0
 NextCallResult state None d =
     (e : Errand) (settings : Settings) (log : Log) → IsDriver e settings log d
-    → state ≡ state_as (state_of (past settings log)) → HasNoNextCall e settings log
+    → state ≡ state_as (state_of (past settings log)) → IsIdleLog e settings log
 NextCallResult state (Some call) d =
     (e : Errand) (settings : Settings) (log : Log) → IsDriver e settings log d
     → state ≡ state_as (state_of (past settings log)) → IsOffer e settings log d (call_of call)

@@ -216,8 +216,8 @@ HostRecorded event old new =
     → HostAfter holdings events old → HostAfter holdings (event ∷ events) new
 
 -- the serving end is stopped, or there is no such reply to release; nothing changed
-abbrev pub HasNone : HostState → ℕ → HostState → Type 0
-HasNone old k new = ((old.stopped ≡ true) ⊎ (may_release old.target.pending k ≡ false)) × (new ≡ old)
+abbrev pub HasNoReply : HostState → ℕ → HostState → Type 0
+HasNoReply old k new = ((old.stopped ≡ true) ⊎ (may_release old.target.pending k ≡ false)) × (new ≡ old)
 
 -- the reply was too long, and the serving end stopped
 pub record IsTooLong (old : HostState) (k : ℕ) (new : HostState) : Type 0 where
@@ -230,5 +230,5 @@ pub record IsTooLong (old : HostState) (k : ℕ) (new : HostState) : Type 0 wher
 -- was found and it is lost.
 abbrev pub ReleaseResult : {E : Type 0} → ℕ → Result Bool E → HostState → HostState → Type 0
 ReleaseResult k (Ok true) old new = (old.stopped ≡ false) × HostRecorded (Released k) old new
-ReleaseResult k (Ok false) old new = HasNone old k new ⊎ (IsTooLong old k new × HostRecorded (Lost k) old new)
+ReleaseResult k (Ok false) old new = HasNoReply old k new ⊎ (IsTooLong old k new × HostRecorded (Lost k) old new)
 ReleaseResult k (Err e) old new = (new.stopped ≡ true) × HostRecorded (Lost k) old new

@@ -16,7 +16,7 @@ pub record IsLearnable (answer : Answer) : Type 0 where
   pub showable : IsFitAnswer answer
 
 -- what the origin took was read from an element, and its facts can be shown
-pub record HasLearnable (taken : Taken) : Type 0 where
+pub record IsLearnableTaken (taken : Taken) : Type 0 where
   pub element : Element
   pub reply : Apdu
   pub written : Writes reply element

@@ -96,12 +96,12 @@ abbrev pub call_events : ℕ → List Call → History
 call_events c calls = map (λ call. (c, Called call)) calls
 
 -- unless the connection is stopped, no call is next
-abbrev pub NoneIsNext : Errand → Transcript → Type 0
-NoneIsNext e p = is_stopped (state_at p) ≡ false → (call : Call) → IsNextCall e p.settings p.log call → ⊥
+abbrev pub IsIdleUnlessStopped : Errand → Transcript → Type 0
+IsIdleUnlessStopped e p = is_stopped (state_at p) ≡ false → (call : Call) → IsNextCall e p.settings p.log call → ⊥
 
 -- unless the connection is stopped, the search was admitted or skipped once Init was answered
-abbrev pub WasTried : Transcript → Type 0
-WasTried p = is_stopped (state_at p) ≡ false → HasOpening (past_of p) → IsTried p.settings p.log
+abbrev pub IsSearchTried : Transcript → Type 0
+IsSearchTried p = is_stopped (state_at p) ≡ false → HasOpening (past_of p) → IsTried p.settings p.log
 
 -- These calls of the connection were made, each the next one or the search that is skipped. The origin admitted
 -- `n` of them.
@@ -121,9 +121,9 @@ pub record CompleteDrive
   pub progress : Progress questions s partial c h n new
   pub rests : (question : Question) (q : Transcript) → slice_get questions c ≡ Some question
       → IsTranscript (settings_of s) (events_on c (call_events c progress.calls ++ h)) q
-      → NoneIsNext (errand_of s question) q
+      → IsIdleUnlessStopped (errand_of s question) q
   pub tried : (q : Transcript) → IsTranscript (settings_of s) (events_on c (call_events c progress.calls ++ h)) q
-      → WasTried q
+      → IsSearchTried q
 
 -- what driving a connection did; if no memory was found, some calls were made
 abbrev pub DriveResultAt

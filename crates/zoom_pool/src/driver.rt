@@ -72,11 +72,14 @@ fn is_rejection(taken: &Taken) -> bool
 impl Driver {
     /// Creates the driver of a connection in state Fresh.
     pub(crate) fn new(alloc: Global, question: Question, step: u32, window: u32) -> Self
+        // the question
         requires wanted { AreWanted question.wanted }
         requires syntax { HasFewArcs question.syntax }
+        // the step and the window
         requires step { 0 < step }
         requires most { step ≤ 1000 }
         requires window { 0 < window }
+        // the driver
         ensures { (settings : Settings)
             → length settings.name ≤ 2000000 → IsDriver (errand_with question step window) settings [] result }
     {

@@ -4,7 +4,7 @@ ghost use Rattle.std.specs.List.{AllByRecursion};
 ghost use Rattle.zknow.specs.Facts.{IsFact};
 ghost use Rattle.zorigin.specs.Facts.{facts_of};
 ghost use Rattle.zorigin.specs.Log.{IsTakenReply};
-ghost use Rattle.zoom_pool.specs.Learned.{IsLearnable, HasLearnable, AreAdded, ArePartlyAdded};
+ghost use Rattle.zoom_pool.specs.Learned.{IsLearnable, IsLearnableTaken, AreAdded, ArePartlyAdded};
 ghost use Rattle.zoom_pool.specs.Transcripts.{facts_in, facts_of_verdict, answer_in};
 
 use std::alloc::{AllocError, Global};
@@ -47,7 +47,7 @@ fn learn(
     knowledge: &mut Knowledge,
     taken: &Taken,
 ) -> Result<(), AllocError>
-    requires { HasLearnable taken.now }
+    requires { IsLearnableTaken taken.now }
     ensures ok { OnOk result (AreAdded knowledge.old (facts_in target (answer_in taken.now)) knowledge.new) }
     ensures part { ArePartlyAdded knowledge.old (facts_in target (answer_in taken.now)) knowledge.new }
     ensures closed { taken.now ≡ Taken.Closed → result ≡ Ok tt }
@@ -68,7 +68,7 @@ pub(crate) fn learn_verdict(
     knowledge: &mut Knowledge,
     judged: &Result<Taken, Refused>,
 ) -> Result<(), AllocError>
-    requires { IfOk judged.now HasLearnable }
+    requires { IfOk judged.now IsLearnableTaken }
     // what is added
     ensures taken { OnOk result (IsTakenReply judged.now) }
     ensures ok { OnOk result (AreAdded knowledge.old (facts_of_verdict target judged.now) knowledge.new) }

@@ -187,9 +187,12 @@ impl Meta {
     /// that found no memory, all calls on each connection keep their promises, as those of a `Pool` do.
     pub fn take(&mut self, c: u32) -> Result<Step, TakeError>
         requires { c < length self.old.pool.connections }
+        // if memory is found
         ensures answer { IsTakeResult c self.old.pool result }
         ensures after { IsDone result → MetaTakeStep c self.old self.new }
+        // if no memory is found
         ensures memory { result ≡ Err TakeError.Memory → MetaIncompleteTake c self.old self.new }
+        // in each case
         ensures grows { AreStillKnown self.old.pool.knowledge self.new.pool.knowledge }
         ensures waiting { waiting_at self.new.pool c ≡ waiting_at self.old.pool c }
         ensures others { SameOthers c self.old.pool self.new.pool }
@@ -220,8 +223,10 @@ impl Meta {
     /// other connections and what is known are unchanged. It takes no memory.
     pub fn stop(&mut self, c: u32, reason: Reason)
         requires { c < length self.old.pool.connections }
+        // the stop
         ensures after { MetaRecorded c (Stopped reason) self.old self.new }
         ensures stopped { stop_at self.new.pool c ≡ Some (states.Failed reason) }
+        // what is unchanged
         ensures waiting { waiting_at self.new.pool c ≡ waiting_at self.old.pool c }
         ensures drivers { self.new.drivers ≡ self.old.drivers }
         ensures rest { SameElse c self.old.pool self.new.pool }
@@ -233,12 +238,15 @@ impl Meta {
     /// does. If no memory is found, the connections and the content of `out` are unchanged.
     pub fn outgoing(&mut self, c: u32, out: &mut Vec<u8>) -> Result<(), AllocError>
         requires { c < length self.old.pool.connections }
+        // on success
         ensures gives { OnOk result (out.new.items ≡ out.old.items ++ waiting_at self.old.pool c) }
         ensures after { OnOk result (MetaRecorded c (HandedOut (waiting_at self.old.pool c)) self.old self.new) }
         ensures all { OnOk result (HasHandedOutAll c self.new.pool) }
         ensures none { OnOk result (waiting_at self.new.pool c ≡ []) }
+        // if no memory is found
         ensures err { OnErr result (self.new ≡ self.old) }
         ensures out { OnErr result (out.new.items ≡ out.old.items) }
+        // in each case
         ensures rest { SameElse c self.old.pool self.new.pool }
     {
         self.pool.outgoing(c, out)

@@ -27,7 +27,7 @@ use zorigin::{CallRefused, Settings};
 /// caller feeds octets to it, and fetches the octets that are to go out. Takes alone change what is known.
 ///
 /// Contracts hold for each history, the list of the connections' events so far, that can have left the pool. A
-/// call that is refused for want of memory is no event. After takes that found no memory, all calls keep their
+/// call that is refused because no memory was found is no event. After takes that found no memory, all calls keep their
 /// promises. A part of what the messages of those takes say may then be known too. The next take of such a
 /// connection adds the rest, unless the connection was stopped before.
 #[derive(Drop)]
@@ -91,10 +91,14 @@ impl Pool {
     /// order, and as `WrongState` if the connection is Closed or Failed. A refused call leaves the pool unchanged.
     pub fn call(&mut self, c: u32, call: &Call) -> Result<(), CallRefused>
         requires { c < length self.old.connections }
+        // if memory is found
         ensures answer { IsCallResult c (call_of call.now) self.old result }
         ensures after { IsMadeCall result → Recorded c (Called (call_of call.now)) self.old self.new }
+        // on success
         ensures put { OnOk result (IsRequestPut c (call_of call.now) self.old self.new) }
+        // if it is refused
         ensures err { OnErr result (self.new ≡ self.old) }
+        // in each case
         ensures rest { SameElse c self.old self.new }
     {
         self.connections[c as usize].call(call)
@@ -122,9 +126,12 @@ impl Pool {
     /// is, before the next take.
     pub fn take(&mut self, c: u32) -> Result<Step, TakeError>
         requires { c < length self.old.connections }
+        // if memory is found
         ensures answer { IsTakeResult c self.old result }
         ensures after { IsDone result → TakeStep c self.old self.new }
+        // if no memory is found
         ensures memory { result ≡ Err TakeError.Memory → IncompleteTake c self.old self.new }
+        // in each case
         ensures grows { AreStillKnown self.old.knowledge self.new.knowledge }
         ensures waiting { waiting_at self.new c ≡ waiting_at self.old c }
         ensures others { SameOthers c self.old self.new }
@@ -138,9 +145,12 @@ impl Pool {
     /// Takes one message of a connection, as `take` does, and returns what the origin took.
     pub(crate) fn take_outcome(&mut self, c: u32) -> Result<Outcome, TakeError>
         requires { c < length self.old.connections }
+        // if memory is found
         ensures answer { IsTakeOutcome c self.old result }
         ensures after { IsDone result → TakeStep c self.old self.new }
+        // if no memory is found
         ensures memory { result ≡ Err TakeError.Memory → IncompleteTake c self.old self.new }
+        // in each case
         ensures grows { AreStillKnown self.old.knowledge self.new.knowledge }
         ensures waiting { waiting_at self.new c ≡ waiting_at self.old c }
         ensures others { SameOthers c self.old self.new }
@@ -178,12 +188,15 @@ impl Pool {
     /// the pool and the content of `out` are unchanged.
     pub fn outgoing(&mut self, c: u32, out: &mut Vec<u8>) -> Result<(), AllocError>
         requires { c < length self.old.connections }
+        // on success
         ensures gives { OnOk result (out.new.items ≡ out.old.items ++ waiting_at self.old c) }
         ensures after { OnOk result (Recorded c (HandedOut (waiting_at self.old c)) self.old self.new) }
         ensures all { OnOk result (HasHandedOutAll c self.new) }
         ensures none { OnOk result (waiting_at self.new c ≡ []) }
+        // if no memory is found
         ensures err { OnErr result (self.new ≡ self.old) }
         ensures out { OnErr result (out.new.items ≡ out.old.items) }
+        // in each case
         ensures rest { SameElse c self.old self.new }
     {
         self.connections[c as usize].outgoing(out)

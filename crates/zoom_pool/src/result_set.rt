@@ -58,11 +58,15 @@ impl ResultSet {
     /// as that call is; the pool is then unchanged.
     pub fn present(self, pool: &mut Pool, op: u32, start: i64, n: i64) -> Result<(), CallRefused>
         requires { self.c < length pool.old.connections }
+        // if memory is found
         ensures answer { IsCallResult self.c (Present op self.set (one_range start n)) pool.old result }
         ensures after { IsMadeCall result
             → Recorded self.c (Called (Present op self.set (one_range start n))) pool.old pool.new }
+        // on success
         ensures put { OnOk result (IsRequestPut self.c (Present op self.set (one_range start n)) pool.old pool.new) }
+        // if it is refused
         ensures err { OnErr result (pool.new ≡ pool.old) }
+        // in each case
         ensures rest { SameElse self.c pool.old pool.new }
     {
         let call = present_call(op, self.set, start, n);
@@ -80,10 +84,14 @@ impl ResultSet {
         ranges: Seq<Range>,
     ) -> Result<(), CallRefused>
         requires { self.c < length pool.old.connections }
+        // if memory is found
         ensures answer { IsCallResult self.c (Present op self.set ranges) pool.old result }
         ensures after { IsMadeCall result → Recorded self.c (Called (Present op self.set ranges)) pool.old pool.new }
+        // on success
         ensures put { OnOk result (IsRequestPut self.c (Present op self.set ranges) pool.old pool.new) }
+        // if it is refused
         ensures err { OnErr result (pool.new ≡ pool.old) }
+        // in each case
         ensures rest { SameElse self.c pool.old pool.new }
     {
         let call = ranges_call(op, self.set, ranges);

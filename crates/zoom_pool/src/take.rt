@@ -55,12 +55,15 @@ impl Connection {
 
     /// What a take does if no message has come: it waits for more, or the input has ended.
     fn lack(&mut self) -> Result<Outcome, TakeError>
+        // no message has come
         requires asked { self.old.framer.asked ≡ true }
         requires sound { self.old.framer.fault ≡ None }
         requires none { self.old.held ≡ None }
+        // the result
         ensures answer { (p : Transcript) → AreConsistent p self.old → is_stopped (state_at p) ≡ false
             → IsUnfinished MESSAGE_LIMIT self.old.framer.octets → EmptyTake p result self.new }
         ensures done { IsDone result }
+        // what is unchanged
         ensures waiting { self.new.waiting ≡ self.old.waiting }
     {
         if !self.ended {

@@ -10,7 +10,7 @@ use Rattle.zoom_questions.specs.declared.question.Question.{Question}
 use Rattle.zoom_questions.specs.declared.question.MetaSettings.{MetaSettings}
 use Rattle.zoom_pool.specs.Transcripts.{Event, Transcript, past_of}
 use Rattle.zoom_pool.specs.History.{History, events_on}
-use Rattle.zoom_pool.specs.Hosts.{HostState, HostAfter, HostTranscript, ReleaseStep, LossStep, HostEvent, Released, Lost, HostRecorded, HasNone, IsTooLong, ReleaseResult, holdings_of, handed_out}
+use Rattle.zoom_pool.specs.Hosts.{HostState, HostAfter, HostTranscript, ReleaseStep, LossStep, HostEvent, Released, Lost, HostRecorded, HasNoReply, IsTooLong, ReleaseResult, holdings_of, handed_out}
 use Rattle.zoom_pool.specs.Metas.{MetaLinks, MetaAfter, settings_of}
 use Rattle.zoom_laws.specs.Exchange.{IsSoundExchange, OneServedLaw, ReleasedLaw, CountLaw, EmptyLaw, FewLaw}
 use Rattle.zoom_sim.specs.declared.peers.Peer.{Peer}
@@ -148,7 +148,7 @@ module _ (one_served : OneServedLaw) (k : ℕ) (s : MetaSettings) (q : Question)
 
 module _ (one_served : OneServedLaw) (empty : EmptyLaw) (n : ℕ) (was mid : Peer) (host : HostState)
     (before : ReleaseSteps n was mid) where
-  none_left : HasNone mid.host 0 host → ReleaseAllStep was (with_host mid host)
+  none_left : HasNoReply mid.host 0 host → ReleaseAllStep was (with_host mid host)
   none_left none = record {
     to = before.to;
     on = λ questions s c h q target p host_events meta after at f.

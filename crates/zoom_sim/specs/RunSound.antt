@@ -14,7 +14,7 @@ use Rattle.zoom_pool.specs.Inputs.{Input}
 use Rattle.zoom_pool.specs.Transcripts.{Event, Fed, Took, InputEnded, HandedOut, Stopped, Transcript, IsTranscript, NextInput, given, fed, state_at, past_of, is_message, sent, take_result}
 use Rattle.zoom_pool.specs.History.{History, events_on}
 use Rattle.zoom_pool.specs.Hosts.{Holdings, HostAfter, HostEvent, IsLong, holdings_of, handed_out, replies_to}
-use Rattle.zoom_pool.specs.Metas.{MetaLinks, MetaAfter, CompleteDrive, NoneIsNext, settings_of}
+use Rattle.zoom_pool.specs.Metas.{MetaLinks, MetaAfter, CompleteDrive, IsIdleUnlessStopped, settings_of}
 use Rattle.zoom_pool.specs.Steering.{errand_of}
 use Rattle.zoom_laws.specs.Accord.{requests}
 use Rattle.zoom_laws.specs.Exchange.{IsSoundExchange, HasTakenAll, ArePlain, fed_to}
@@ -51,7 +51,7 @@ TakeOneStep c taken old new =
 
 -- no call is due on the connection
 abbrev pub HasNoCallDue : MetaSettings → Question → Transcript → Type 0
-HasNoCallDue s q p = NoneIsNext (errand_of s q) p
+HasNoCallDue s q p = IsIdleUnlessStopped (errand_of s q) p
 
 -- Connection and target are sound, with the octets on their way, and no call is due. If `taken` is true, each message
 -- that came was taken.

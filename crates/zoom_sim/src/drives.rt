@@ -57,10 +57,12 @@ fn take_one(meta: &mut Meta, c: u32) -> Result<bool, AllocError>
 /// Takes each whole message of connection `c`, and makes the calls that are due after each.
 pub(crate) fn take_all(meta: &mut Meta, c: u32) -> Result<(), AllocError>
     requires { c < length meta.old.pool.connections }
+    // on success
     ensures on { OnOk result (SilentStep meta.old meta.new) }
     ensures all { OnOk result (TakeAllStep c meta.old meta.new) }
     ensures adds { OnOk result (QuietStep c meta.old meta.new) }
     ensures own { OnOk result (DrivenStep c meta.old meta.new) }
+    // in each case
     ensures size { length meta.new.pool.connections ≡ length meta.old.pool.connections }
 {
     exchange_laws();

@@ -70,13 +70,17 @@ impl Peer {
         k: usize,
     ) -> Result<bool, AllocError>
         requires { c < length meta.old.pool.connections }
+        // over any channel
         ensures carries { OnOk result (CarryStep c meta.old meta.new self.old self.new) }
+        // over a sure channel
         ensures steps { W.sure ≡ true
             → OnOk result (PeerStep c true true true meta.old meta.new self.old self.new) }
         ensures all { W.sure ≡ true → k ≡ 2 ^ 64 - 1
             → OnOk result ((self.new.to ≡ []) × (waiting_at meta.new.pool c ≡ [])) }
+        // what was carried
         ensures carried { OnOk result (AfterCarryTo W.carries_to c k
             channel.old channel.new meta.old meta.new self.old self.new) }
+        // in each case
         ensures size { length meta.new.pool.connections ≡ length meta.old.pool.connections }
     {
         exchange_laws();
@@ -99,13 +103,17 @@ impl Peer {
         k: usize,
     ) -> Result<bool, AllocError>
         requires { c < length meta.old.pool.connections }
+        // over any channel
         ensures carries { OnOk result (CarryStep c meta.old meta.new self.old self.new) }
+        // over a sure channel
         ensures steps { W.sure ≡ true → IfOk result
             (λ carried. PeerStep c true (not carried) (not carried) meta.old meta.new self.old self.new) }
         ensures all { W.sure ≡ true → k ≡ 2 ^ 64 - 1 → OnOk result (CarryAllStep self.old self.new) }
+        // what left the target, and what was carried
         ensures none { OnOk result (self.new.host.waiting ≡ []) }
         ensures carried { OnOk result (AfterFeedFrom W.carries_from c k
             channel.old channel.new meta.old meta.new self.old self.new) }
+        // in each case
         ensures size { length meta.new.pool.connections ≡ length meta.old.pool.connections }
     {
         exchange_laws();
@@ -122,11 +130,14 @@ impl Peer {
     /// message was taken before.
     fn end_where_stopped(&self, meta: &mut Meta, c: u32) -> Result<(), AllocError>
         requires { c < length meta.old.pool.connections }
+        // on success
         ensures on { OnOk result (SilentStep meta.old meta.new) }
+        // if nothing waits at the target
         ensures steps { self.now.host.waiting ≡ []
             → OnOk result (PeerStep c true true true meta.old meta.new self.now self.now) }
         ensures ends { self.now.host.waiting ≡ [] → self.now.from ≡ []
             → OnOk result (PeerEndStep c true meta.old meta.new self.now self.now) }
+        // the events of the connection, and the number of connections
         ensures own { OnOk result (DrivenStep c meta.old meta.new) }
         ensures size { length meta.new.pool.connections ≡ length meta.old.pool.connections }
     {
@@ -150,14 +161,18 @@ impl Peer {
         k: usize,
     ) -> Result<bool, AllocError>
         requires { c < length meta.old.pool.connections }
+        // over any channel
         ensures carries { OnOk result (CarryStep c meta.old meta.new self.old self.new) }
+        // over a sure channel
         ensures steps { W.sure ≡ true → IfOk result
             (λ carried. PeerStep c true true (not carried) meta.old meta.new self.old self.new) }
         ensures all { W.sure ≡ true → k ≡ 2 ^ 64 - 1 → OnOk result (CarryAllStep self.old self.new) }
         ensures ends { W.sure ≡ true → k ≡ 2 ^ 64 - 1 → IfOk result
             (λ carried. PeerEndStep c (not carried) meta.old meta.new self.old self.new) }
+        // what was carried
         ensures carried { OnOk result (AfterCarryFrom W.carries_from W.fails c k
             channel.old channel.new meta.old meta.new self.old self.new) }
+        // in each case
         ensures size { length meta.new.pool.connections ≡ length meta.old.pool.connections }
     {
         let carried = self.feed_from(meta, c, channel, k)?;

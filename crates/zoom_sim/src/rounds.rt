@@ -26,12 +26,16 @@ fn make_move<W: Channel>(
     channel: &mut W,
     step: Move,
 ) -> Result<(), AllocError>
+    // the connections, and a peer for each
     requires few { length meta.old.pool.connections < 2 ^ 32 }
     requires equal { length peers.old ≡ length meta.old.pool.connections }
+    // the worlds after it
     ensures goes { OnOk result (AfterMoves meta.old meta.new peers.old peers.new) }
     ensures stays { W.sure ≡ true → OnOk result (AfterSoundMoves meta.old meta.new peers.old peers.new) }
+    // the move
     ensures moved { OnOk result (AfterMoveIf W.carries_to W.carries_from W.fails step
         channel.old channel.new meta.old meta.new peers.old peers.new) }
+    // in each case
     ensures size { length meta.new.pool.connections ≡ length meta.old.pool.connections }
 {
     let c = connection_of(step);
@@ -52,12 +56,16 @@ pub fn make_moves<W: Channel>(
     channel: &mut W,
     moves: &[Move],
 ) -> Result<(), AllocError>
+    // the connections, and a peer for each
     requires few { length meta.old.pool.connections < 2 ^ 32 }
     requires equal { length peers.old ≡ length meta.old.pool.connections }
+    // the worlds after them
     ensures goes { OnOk result (AfterMoves meta.old meta.new peers.old peers.new) }
     ensures stays { W.sure ≡ true → OnOk result (AfterSoundMoves meta.old meta.new peers.old peers.new) }
+    // the moves
     ensures moved { OnOk result (AreMade W.carries_to W.carries_from W.fails channel.old meta.old peers.old
         moves.now channel.new meta.new peers.new) }
+    // in each case
     ensures size { length meta.new.pool.connections ≡ length meta.old.pool.connections }
 {
     for step in moves {
@@ -136,14 +144,18 @@ pub(crate) fn carry_out<W: Channel>(
     channel: &mut W,
     moves: &[Move],
 ) -> Result<(), AllocError>
+    // the connections, and a peer for each
     requires few { length meta.old.pool.connections < 2 ^ 32 }
     requires equal { length peers.old ≡ length meta.old.pool.connections }
+    // over any channel
     ensures ends { OnOk result (AfterAllRounds meta.old meta.new peers.old) }
     ensures moved { OnOk result (MovesFirst W.carries_to W.carries_from W.fails moves.now
         channel.old meta.old meta.new peers.old) }
+    // over a sure channel
     ensures whole { W.sure ≡ true → OnOk result ((questions : List Question) (s : MetaSettings)
         (targets : List TargetState) → MetaAfter questions s [] meta.old → ArePeersOf targets peers.old
         → length targets ≡ length questions → IsCompleteRun questions s targets meta.new) }
+    // in each case
     ensures size { length meta.new.pool.connections ≡ length meta.old.pool.connections }
 {
     drive_all(meta)?;

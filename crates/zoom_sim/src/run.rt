@@ -50,16 +50,21 @@ pub fn run_over<W: Channel>(
     channel: &mut W,
     moves: &[Move],
 ) -> Result<Meta, AllocError>
+    // the questions and the settings
     requires some { length questions.items < 2 ^ 32 }
     requires askable { AreAskable questions.items }
     requires fit { AreFit settings }
+    // a new target for each question
     requires new { AreNew targets.items }
     requires equal { length targets.items ≡ length questions.items }
+    // over any channel
     ensures is_run { IfOk result (λ meta. IsRun questions.items settings targets.items meta) }
+    // over a sure channel
     ensures whole { W.sure ≡ true
         → IfOk result (λ meta. IsCompleteRun questions.items settings targets.items meta) }
     ensures brings { W.sure ≡ true
         → IfOk result (λ meta. IsFaithfulRun questions.items targets.items meta) }
+    // a connection for each question
     ensures size { IfOk result (λ meta. length meta.pool.connections ≡ length questions.items) }
 {
     let mut meta = Meta::new(alloc, Seq::from_vec(questions), settings)?;
@@ -87,19 +92,24 @@ pub fn run_world(
     mode: Mode,
     out: &mut Vec<u8>,
 ) -> Result<Meta, AllocError>
+    // the questions and the settings
     requires some { length questions.items < 2 ^ 32 }
     requires askable { AreAskable questions.items }
     requires fit { AreFit settings }
+    // a new target for each question
     requires new { AreNew targets.items }
     requires equal { length targets.items ≡ length questions.items }
+    // the run
     ensures is_run { IfOk result (λ meta. IsRun questions.items settings targets.items meta) }
     ensures whole { IfOk result (λ meta. IsCompleteRun questions.items settings targets.items meta) }
     ensures brings { IfOk result (λ meta. IsFaithfulRun questions.items targets.items meta) }
     ensures size { IfOk result (λ meta. length meta.pool.connections ≡ length questions.items) }
+    // the list
     ensures list { IfOk result
         (λ meta. out.new.items ≡ out.old.items ++ listing names.now mode meta.pool.knowledge) }
     ensures brings_list { IfOk result (λ meta. AreAnswerable questions.items targets.items meta
         → IsBroughtList questions.items targets.items names.now mode out.old.items out.new.items) }
+    // if no memory is found
     ensures err { OnErr result (out.new.items ≡ out.old.items) }
 {
     let meta = run_over(alloc, questions, settings, targets, &mut InMemory, moves)?;

@@ -29,7 +29,7 @@ talks_itself c old new source left sink held t = record {
       record {
         more = e.talk.more;
         talked = ended_itself e.talk.trace (left.octets, e.talk.consumed) e.over;
-        after = e.talk.after;
+        after = e.talk.known.0;
         over = λ is. e.over;
       };
 }
@@ -41,10 +41,10 @@ talks_stopped c talks.Read old new source left sink held t other = record {
   on = λ q s h a.
       let e = (t.on q s [] h a).2 in
       record {
-        more = (c, Stopped reasons.Read) ∷ e.talk.more;
-        talked = was_stopped reasons.Read e.talk.trace (left.octets, e.talk.consumed) tt (λ is. absurd cc);
-        after = e.after;
-        over = λ is. stopped_over s c reasons.Read (e.talk.more ++ h);
+        more = (c, Stopped reasons.Read) ∷ e.more;
+        talked = was_stopped reasons.Read e.trace (left.octets, e.consumed) tt (λ is. absurd cc);
+        after = e.known.1;
+        over = λ is. stopped_over s c reasons.Read (e.more ++ h);
       };
 }
 talks_stopped c talks.Write old new source left sink held t other = record {
@@ -53,18 +53,18 @@ talks_stopped c talks.Write old new source left sink held t other = record {
       record {
         more = (c, Stopped reasons.Write) ∷ (c, HandedOut e.octets) ∷ e.more;
         talked = was_stopped reasons.Write e.trace (left.octets, e.consumed) tt (λ is. absurd cc);
-        after = e.after;
+        after = e.known;
         over = λ is. stopped_over s c reasons.Write ((c, HandedOut e.octets) ∷ e.more ++ h);
       };
 }
 talks_stopped c talks.Ended old new source left sink held t other = record {
   on = λ q s h a.
       let e = t.on q s [] h a in
-      let ended = e.stopped.talk in
+      let ended = e.stopped in
       record {
         more = (c, Stopped reasons.Ended) ∷ ended.more;
         talked = was_stopped reasons.Ended ended.trace (left.octets, ended.consumed) tt (λ is. e.cut);
-        after = e.stopped.after;
+        after = ended.known.1;
         over = λ is. stopped_over s c reasons.Ended (ended.more ++ h);
       };
 }
@@ -72,10 +72,10 @@ talks_stopped c talks.Turns old new source left sink held t other = record {
   on = λ q s h a.
       let e = t.on q s [] h a in
       record {
-        more = (c, Stopped reasons.Turns) ∷ e.talk.more;
-        talked = was_stopped reasons.Turns e.talk.trace (left.octets, e.talk.consumed) refl (λ is. absurd cc);
-        after = e.after;
-        over = λ is. stopped_over s c reasons.Turns (e.talk.more ++ h);
+        more = (c, Stopped reasons.Turns) ∷ e.more;
+        talked = was_stopped reasons.Turns e.trace (left.octets, e.consumed) refl (λ is. absurd cc);
+        after = e.known.1;
+        over = λ is. stopped_over s c reasons.Turns (e.more ++ h);
       };
 }
 talks_stopped c talks.Memory old new source left sink held t other = absurd (other refl)

@@ -15,7 +15,7 @@ use Rattle.zoom_io.specs.Pushing.{AfterPush}
 use Rattle.zoom_io.proofs.Apart.{behind, none_both}
 use Rattle.zoom_io.proofs.Sending.{all_handed_out}
 use Rattle.zoom_tcp.specs.Asking.{KnownOctets, octets_of, link_at, unreached, begun, unsent}
-use Rattle.zoom_tcp.specs.AskingSteps.{OpenedWay, AfterOpen, AfterOpenIf, IsOpened, IsOpenedIf, AreOpened, AfterOpenAll}
+use Rattle.zoom_tcp.specs.AskingSteps.{OpenedConnection, AfterOpen, AfterOpenIf, IsOpened, IsOpenedIf, AreOpened, AfterOpenAll}
 use Rattle.zoom_tcp.specs.Connecting.{IsFitIf}
 use Rattle.zoom_tcp.proofs.Alike.{entry_middle, entry_front, opening_alike, opening_for, others_opening, opened_since}
 
@@ -65,7 +65,7 @@ pub opens_for : (IsOwn IsIts : KnownOctets → Type 0) (c : ℕ) (link : Option 
     → ((came : KnownOctets) → IsOwn came → IsIts came) → AfterOpen IsOwn c link old new → AfterOpen IsIts c link old new
 opens_for IsOwn IsIts c link old new f opens = record {
   on = λ q s h a.
-      let o : OpenedWay IsOwn q s c h link new = opens.on q s h a in
+      let o : OpenedConnection IsOwn q s c h link new = opens.on q s h a in
       record { more = o.more; opening = opening_for f o.opening; after = o.after };
 }
 
@@ -145,7 +145,7 @@ module _ {A : Type 0} (octets : A → KnownOctets) (IsOwn : ℕ → KnownOctets 
         → AfterOpenIf (IsOwn n) b n (octets_of link octets) mid new
         → AreOpened (links ++ link ∷ []) octets IsOwn q s chosen new
     one_opened mid new w true is one =
-        let o : OpenedWay (IsOwn n) q s n w.history (octets_of link octets) new = one.on q s w.history w.after in
+        let o : OpenedConnection (IsOwn n) q s n w.history (octets_of link octets) new = one.on q s w.history w.after in
         let first : events_on n w.history ≡ [] = w.others n (omega (arith, at)) in
         let here : IsOpened (IsOwn n) q s n (octets_of link octets) (o.more ++ w.history) = record {
           more = o.more;

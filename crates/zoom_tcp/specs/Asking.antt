@@ -12,7 +12,7 @@ use Rattle.zoom_pool.specs.Transcripts.{HandedOut, Stopped}
 use Rattle.zoom_pool.specs.History.{History, events_on}
 use Rattle.zoom_pool.specs.Metas.{MetaLinks, MetaAfter, call_events}
 use Rattle.zoom_io.specs.TalksAmong.{halves_at}
-use Rattle.zoom_io.specs.TalkTraces.{Stage, Listening, Waiting, Ended, TalkTrace, IsIdle, IsAllHandedOut, IsStoppedAt, IsCutOff}
+use Rattle.zoom_io.specs.TalkTraces.{Stage, Listening, Waiting, Ended, TalkTrace, IsIdleConnection, IsAllHandedOut, IsStoppedAt, IsCutOff}
 
 -- Whether the list has something for connection c.
 abbrev pub is_present : {A : Type 0} → List (Option A) → ℕ → Bool
@@ -46,11 +46,11 @@ pub data Opening
     : History → Option KnownOctets → Type 0 where
   unreached : Opening IsOwn questions s c h ((c, Stopped reasons.Connect) ∷ []) None
   begun : (came : KnownOctets) (calls : List Call) (octets : List ℕ) → IsOwn came
-      → IsIdle questions s c (call_events c calls ++ h)
+      → IsIdleConnection questions s c (call_events c calls ++ h)
       → IsAllHandedOut s c ((c, HandedOut octets) ∷ (call_events c calls ++ h))
       → Opening IsOwn questions s c h ((c, HandedOut octets) ∷ call_events c calls) (Some came)
   unsent : (came : KnownOctets) (calls : List Call) (octets : List ℕ) → IsOwn came
-      → IsIdle questions s c (call_events c calls ++ h)
+      → IsIdleConnection questions s c (call_events c calls ++ h)
       → IsAllHandedOut s c ((c, HandedOut octets) ∷ (call_events c calls ++ h))
       → Opening IsOwn questions s c h
       ((c, Stopped reasons.Write) ∷ (c, HandedOut octets) ∷ call_events c calls) None

@@ -16,7 +16,7 @@ link_when true came = Some came
 link_when false came = None
 
 -- After a history, the connection was opened, and has this link.
-pub record OpenedWay
+pub record OpenedConnection
     (IsOwn : KnownOctets → Type 0) (questions : List Question) (s : MetaSettings) (c : ℕ) (h : History)
     (link : Option KnownOctets) (new : MetaLinks)
     : Type 0 where
@@ -28,7 +28,7 @@ pub record OpenedWay
 pub record AfterOpen (IsOwn : KnownOctets → Type 0) (c : ℕ) (link : Option KnownOctets) (old new : MetaLinks)
     : Type 0 where
   pub on : (questions : List Question) (s : MetaSettings) (h : History)
-      → MetaAfter questions s h old → OpenedWay IsOwn questions s c h link new
+      → MetaAfter questions s h old → OpenedConnection IsOwn questions s c h link new
 
 -- It is opened if it is chosen; otherwise nothing changes.
 abbrev pub AfterOpenIf

@@ -11,25 +11,33 @@ use Rattle.zoom_io.specs.TalkTraces.{Due, Waiting}
 use Rattle.zoom_io.specs.TalksAmong.{View, view_of, OngoingTalkAmong, IsDoneAmong}
 use Rattle.zoom_tcp.specs.declared.host_talks.HostTalk.{HostTalk}
 use Rattle.zoom_tcp.specs.declared.host_talks.HostTalk.TheVariants as talks
-use Rattle.zoom_tcp.specs.Asking.{KnownOctets, IsAnyLink}
+use Rattle.zoom_tcp.specs.declared.host_talks.Reached.{Reached}
+use Rattle.zoom_tcp.specs.declared.host_talks.Reached.TheVariants.{Link}
+use Rattle.zoom_tcp.specs.Asking.{KnownOctets}
 use Rattle.zoom_tcp.specs.AskingSteps.{IsOpened, IsOpenedIf, AfterOpen}
 
 -- How far asking a host has come, as contracts see it.
-pub data HostView : Type 0 where
-  Out : HostView
-  Connecting : HostView
-  Talking : View → HostView
+pub data HostView (A : Type 0) : Type 0 where
+  Out : HostView A
+  Connecting : A → HostView A
+  Talking : View → HostView A
 
 -- The view of a host's part.
-abbrev pub host_view : {A R W : Type 0} → (R → DeviceState) → (R → ℕ) → (W → DeviceState) → HostTalk A R W → HostView
+abbrev pub host_view
+    : {A R W : Type 0} → (R → DeviceState) → (R → ℕ) → (W → DeviceState) → HostTalk A R W → HostView A
 host_view state polls held talks.Out = Out
-host_view state polls held (talks.Connecting attempt) = Connecting
+host_view state polls held (talks.Connecting attempt) = Connecting attempt
 host_view state polls held (talks.Talking halves) = Talking (view_of state polls held halves)
 
 -- The view, if there is something to see.
-abbrev pub view_if : {E : Type 0} → (E → HostView) → Option E → Option HostView
+abbrev pub view_if : {A E : Type 0} → (E → HostView A) → Option E → Option (HostView A)
 view_if view None = None
 view_if view (Some x) = Some (view x)
+
+-- If the host was reached, the octets that come over the link are those of a link of its own.
+abbrev pub IsReachedOver : {R W : Type 0} → (R → DeviceState) → (KnownOctets → Type 0) → Reached R W → Type 0
+IsReachedOver state IsOwn (Link source sink) = IsOwn (state source).octets
+IsReachedOver state IsOwn _ = Unit {0}
 
 -- ---- one host
 
@@ -42,109 +50,120 @@ IsTalkAt phases.Waiting q s c h now n first last =
 IsTalkAt phases.Over q s c h now n first last =
     (polls : ℕ) × (polls ≤ 1000000000) × IsDoneAmong q s c h now polls first last
 
--- The host was reached, and the talk that began then is as its phase says.
-pub record IsTalkedWith (q : List Question) (s : MetaSettings) (c : ℕ) (now : History) (n : ℕ) (last : View)
+-- The host was reached over a link of its own, and the talk that began then is as its phase says.
+pub record IsTalkedWith
+    (IsOwn : KnownOctets → Type 0) (q : List Question) (s : MetaSettings) (c : ℕ) (now : History) (n : ℕ)
+    (last : View)
     : Type 0 where
   pub h : History
   pub first : View
-  pub opened : IsOpened IsAnyLink q s c (Some first.source.octets) h
+  pub opened : IsOpened IsOwn q s c (Some first.source.octets) h
   pub talk : IsTalkAt last.phase q s c h now n first last
 
--- What the events of a connection are, by how far asking its host has come.
-abbrev pub IsHostAt : Bool → List Question → MetaSettings → ℕ → History → ℕ → HostView → Type 0
-IsHostAt chosen q s c now n Out = IsOpenedIf IsAnyLink chosen q s c None now
-IsHostAt chosen q s c now n Connecting = (chosen ≡ true) × (events_on c now ≡ [])
-IsHostAt chosen q s c now n (Talking last) = (chosen ≡ true) × IsTalkedWith q s c now n last
-
--- A step of a connection, after which the others have no new events.
-pub record AfterHostStep
-    (chosen : Bool) (q : List Question) (s : MetaSettings) (c : ℕ) (now : History) (n : ℕ) (last : HostView)
-    (new : MetaLinks)
-    : Type 0 where
-  pub later : History
-  pub after : MetaAfter q s later new
-  pub at : IsHostAt chosen q s c later n last
-  pub others : (i : ℕ) → (c == i) ≡ false → events_on i later ≡ events_on i now
-
--- The connection goes from at most n polls to at most m.
-pub record HostStep (c n m : ℕ) (old new : MetaLinks) (before last : HostView) : Type 0 where
-  pub on : (chosen : Bool) (q : List Question) (s : MetaSettings) (now : History)
-      → MetaAfter q s now old → IsHostAt chosen q s c now n before → AfterHostStep chosen q s c now m last new
-
 -- Nothing more happens with the host.
-abbrev pub IsHostOver : HostView → Type 0
+abbrev pub IsHostOver : {A : Type 0} → HostView A → Type 0
 IsHostOver Out = Unit {0}
-IsHostOver Connecting = ⊥
+IsHostOver (Connecting attempt) = ⊥
 IsHostOver (Talking last) = last.phase ≡ phases.Over
 
 -- The phase of a talk that was begun.
-abbrev pub IsNew : HostView → Type 0
+abbrev pub IsNew : {A : Type 0} → HostView A → Type 0
 IsNew Out = Unit {0}
-IsNew Connecting = ⊥
+IsNew (Connecting attempt) = ⊥
 IsNew (Talking last) = last.phase ≡ phases.Due
 
 -- The octets that come over the link to the host, if there is a link.
-abbrev pub link_of : HostView → Option KnownOctets
+abbrev pub link_of : {A : Type 0} → HostView A → Option KnownOctets
 link_of (Talking last) = Some last.source.octets
 link_of _ = None
 
 -- What looking at an attempt did: nothing; or the connection was opened, and a talk begins if the host was reached.
-abbrev pub IsBegun : ℕ → Option HostView → MetaLinks → MetaLinks → Type 0
-IsBegun c None old new = new ≡ old
-IsBegun c (Some view) old new = AfterOpen IsAnyLink c (link_of view) old new × IsNew view
+abbrev pub IsBegun
+    : {A : Type 0} → (KnownOctets → Type 0) → ℕ → Option (HostView A) → MetaLinks → MetaLinks → Type 0
+IsBegun IsOwn c None old new = new ≡ old
+IsBegun IsOwn c (Some view) old new = AfterOpen IsOwn c (link_of view) old new × IsNew view
 
--- ---- all hosts
+-- For each name, `host:port`: which attempts are at its host, and which octets come over a link to its host.
+module _ {A : Type 0} (IsFor : List ℕ → A → Type 0) (IsOwn : List ℕ → KnownOctets → Type 0) where
+  -- What the events of a connection with this name are, by how far asking its host has come.
+  abbrev pub IsHostAt
+      : List ℕ → Bool → List Question → MetaSettings → ℕ → History → ℕ → HostView A → Type 0
+  IsHostAt name chosen q s c now n Out = IsOpenedIf (IsOwn name) chosen q s c None now
+  IsHostAt name chosen q s c now n (Connecting attempt) =
+      (chosen ≡ true) × (events_on c now ≡ []) × IsFor name attempt
+  IsHostAt name chosen q s c now n (Talking last) = (chosen ≡ true) × IsTalkedWith (IsOwn name) q s c now n last
 
--- What the events of a connection are, if there is an entry for it.
-abbrev pub IsHostIn : {E : Type 0} → (E → HostView) → Bool → List Question → MetaSettings → ℕ → History → ℕ
-    → Option E → Type 0
-IsHostIn view chosen q s c now n None = Unit {0}
-IsHostIn view chosen q s c now n (Some talk) = IsHostAt chosen q s c now n (view talk)
+  -- A step of a connection, after which the others have no new events.
+  pub record AfterHostStep
+      (name : List ℕ) (chosen : Bool) (q : List Question) (s : MetaSettings) (c : ℕ) (now : History) (n : ℕ)
+      (last : HostView A) (new : MetaLinks)
+      : Type 0 where
+    pub later : History
+    pub after : MetaAfter q s later new
+    pub at : IsHostAt name chosen q s c later n last
+    pub others : (i : ℕ) → (c == i) ≡ false → events_on i later ≡ events_on i now
 
--- Some history left the connections, after at most n c polls of each connection c.
-pub record AreHosts {E : Type 0}
-    (view : E → HostView) (chosen : ℕ → Bool) (q : List Question) (s : MetaSettings) (n : ℕ → ℕ) (hosts : List E)
-    (new : MetaLinks)
-    : Type 0 where
-  pub now : History
-  pub after : MetaAfter q s now new
-  pub each : (c : ℕ) → IsHostIn view (chosen c) q s c now (n c) (slice_get hosts c)
+  -- The connection goes from at most n polls to at most m, whatever its name is.
+  pub record HostStep (c n m : ℕ) (old new : MetaLinks) (before last : HostView A) : Type 0 where
+    pub on : (name : List ℕ) (chosen : Bool) (q : List Question) (s : MetaSettings) (now : History)
+        → MetaAfter q s now old → IsHostAt name chosen q s c now n before
+        → AfterHostStep name chosen q s c now m last new
 
--- The connections go from n c to m c polls each.
-pub record EachHostStep {E : Type 0}
-    (view : E → HostView) (n m : ℕ → ℕ) (before last : List E) (old new : MetaLinks)
-    : Type 0 where
-  pub on : (chosen : ℕ → Bool) (q : List Question) (s : MetaSettings)
-      → AreHosts view chosen q s n before old → AreHosts view chosen q s m last new
+  -- ---- all hosts
 
--- All connections go from at most n polls to at most m.
-abbrev pub HostsStep : {E : Type 0} → (E → HostView) → ℕ → ℕ → List E → List E → MetaLinks → MetaLinks → Type 0
-HostsStep view n m before last old new = EachHostStep view (λ c. n) (λ c. m) before last old new
+  -- What the events of a connection are, if there is an entry for it.
+  abbrev pub IsHostIn
+      : {E : Type 0} → (E → HostView A) → List ℕ → Bool → List Question → MetaSettings → ℕ → History → ℕ
+      → Option E → Type 0
+  IsHostIn view name chosen q s c now n None = Unit {0}
+  IsHostIn view name chosen q s c now n (Some talk) = IsHostAt name chosen q s c now n (view talk)
 
--- One round: each connection has one poll more at most, up to 1,000,000,000.
-abbrev pub AfterRoundOfHosts : {E : Type 0} → (E → HostView) → List E → List E → MetaLinks → MetaLinks → Type 0
-AfterRoundOfHosts view before last old new =
-    (n : ℕ) → n < 1000000000 → HostsStep view n (n + 1) before last old new
+  -- Some history left the connections, after at most n c polls of each connection c.
+  pub record AreHosts {E : Type 0}
+      (view : E → HostView A) (names : ℕ → List ℕ) (chosen : ℕ → Bool) (q : List Question) (s : MetaSettings)
+      (n : ℕ → ℕ) (hosts : List E) (new : MetaLinks)
+      : Type 0 where
+    pub now : History
+    pub after : MetaAfter q s now new
+    pub each : (c : ℕ) → IsHostIn view (names c) (chosen c) q s c now (n c) (slice_get hosts c)
+
+  -- The connections go from n c to m c polls each, whatever their names are.
+  pub record EachHostStep {E : Type 0}
+      (view : E → HostView A) (n m : ℕ → ℕ) (before last : List E) (old new : MetaLinks)
+      : Type 0 where
+    pub on : (names : ℕ → List ℕ) (chosen : ℕ → Bool) (q : List Question) (s : MetaSettings)
+        → AreHosts view names chosen q s n before old → AreHosts view names chosen q s m last new
+
+  -- All connections go from at most n polls to at most m.
+  abbrev pub HostsStep
+      : {E : Type 0} → (E → HostView A) → ℕ → ℕ → List E → List E → MetaLinks → MetaLinks → Type 0
+  HostsStep view n m before last old new = EachHostStep view (λ c. n) (λ c. m) before last old new
+
+  -- One round: each connection has one poll more at most, up to 1,000,000,000.
+  abbrev pub AfterRoundOfHosts
+      : {E : Type 0} → (E → HostView A) → List E → List E → MetaLinks → MetaLinks → Type 0
+  AfterRoundOfHosts view before last old new =
+      (n : ℕ) → n < 1000000000 → HostsStep view n (n + 1) before last old new
 
 -- Nothing more happens with the host, if there is an entry for it.
-abbrev pub IsOverIn : {E : Type 0} → (E → HostView) → Option E → Type 0
+abbrev pub IsOverIn : {A E : Type 0} → (E → HostView A) → Option E → Type 0
 IsOverIn view None = Unit {0}
 IsOverIn view (Some talk) = IsHostOver (view talk)
 
 -- Nothing more happens with any host.
-abbrev pub AreHostsOver : {E : Type 0} → (E → HostView) → List E → Type 0
+abbrev pub AreHostsOver : {A E : Type 0} → (E → HostView A) → List E → Type 0
 AreHostsOver view hosts = (c : ℕ) → IsOverIn view (slice_get hosts c)
 
 -- ---- before the first round
 
--- The host is being connected to if there is an attempt; else there is no host.
-abbrev pub IsFirstOf : {B A R W : Type 0} → Option B → HostTalk A R W → Type 0
+-- The host is being connected to by the attempt, if there is one; else there is no host.
+abbrev pub IsFirstOf : {A R W : Type 0} → Option A → HostTalk A R W → Type 0
 IsFirstOf None talks.Out = Unit {0}
-IsFirstOf (Some attempt) (talks.Connecting taken) = Unit {0}
+IsFirstOf (Some attempt) (talks.Connecting taken) = taken ≡ attempt
 IsFirstOf _ _ = ⊥
 
 -- The same for each entry.
-abbrev pub AreAllBegun : {B A R W : Type 0} → List (Option B) → List (HostTalk A R W) → Type 0
+abbrev pub AreAllBegun : {A R W : Type 0} → List (Option A) → List (HostTalk A R W) → Type 0
 AreAllBegun [] [] = Unit {0}
 AreAllBegun (x ∷ xs) (y ∷ ys) = IsFirstOf x y × AreAllBegun xs ys
 AreAllBegun _ _ = ⊥

@@ -14,7 +14,7 @@ pub record IsInTime (IsMoment : Duration → Type 0) (limits : Limits) (begun : 
     : Type 0 where
   pub now : Duration
   pub seen : IsMoment now
-  pub silence : IfSome came (λ since. IsWithin since now limits.patience)
+  pub patient : IfSome came (λ since. IsWithin since now limits.patience)
   pub total : IfSome limits.total (IsWithin begun now)
 
 -- What is said if no octets have come yet.

@@ -1,7 +1,9 @@
 //! Asks hosts at once, without threads.
 ghost use Rattle.std.specs.Prelude.{◌≡◌, ◌<◌, ◌^◌, true, length, IfOk};
 ghost use Rattle.zoom_questions.specs.Askable.{AreFit, AreAskable};
-ghost use Rattle.zoom_tcp.specs.Asking.{is_present, IsAsked};
+ghost use Rattle.zoom_io.specs.TalksAmong.{halves_at};
+ghost use Rattle.zoom_tcp.specs.Asking.{is_present, IsAsked, IsAskedOver};
+ghost use Rattle.zoom_tcp.specs.HostLinks.{IsOwnLink};
 ghost use Rattle.zoom_tcp.specs.HostTalks.{IsFirstOf, AreAllBegun};
 
 use crate::connecting::{Attempt, begin_attempts};
@@ -50,7 +52,9 @@ pub fn ask_at_once<N: Net + Clock, V: Watch>(
     )
 }
 
-/// Does what `ask_at_once` does, over the sockets of a network.
+/// Does what `ask_at_once` does, over the sockets of a network. Each connection is talked with over a link of its own:
+/// its socket was opened for one of the addresses that were found for its name, and is connected. The octets that came
+/// over it first are those that were read.
 pub fn ask_at_once_over<S: Sockets, V: Watch>(
     alloc: Global,
     network: &Network<S>,
@@ -64,7 +68,9 @@ pub fn ask_at_once_over<S: Sockets, V: Watch>(
     requires askable { AreAskable questions.items }
     requires fit { AreFit settings }
     requires equal { length addresses.now ≡ length questions.items }
-    ensures asked { IfOk result (λ meta. IsAsked questions.items settings true (is_present addresses.now) meta) }
+    ensures asked { IfOk result (λ meta. IsAskedOver
+        (λ c. IsOwnLink S.AreFound S.IsOpening S.IsConnected S.octets (halves_at addresses.now c))
+        questions.items settings true (is_present addresses.now) meta) }
 {
     let mut meta = Meta::new(alloc, Seq::from_vec(questions), settings)?;
     let attempts = begin_attempts(alloc, network, addresses, limits)?;
@@ -78,7 +84,7 @@ pub fn ask_at_once_over<S: Sockets, V: Watch>(
 /// Asking one host over sockets.
 type SocketTalk<'a, S> = HostTalk<Attempt<'a, S>, HostSource<'a, S>, HostSink<'a, S>>;
 
-/// A host that is being connected to for each attempt, and no host for each other entry.
+/// A host that is being connected to by each attempt, and no host for each other entry.
 fn talks_of<'a, S: Sockets>(
     alloc: Global,
     attempts: Vec<Option<Attempt<'a, S>>>,
@@ -93,7 +99,7 @@ fn talks_of<'a, S: Sockets>(
     Ok(talks)
 }
 
-/// A host that is being connected to, if there is an attempt.
+/// A host that is being connected to by the attempt, if there is one.
 fn talk_of<'a, S: Sockets>(attempt: Option<Attempt<'a, S>>) -> SocketTalk<'a, S>
     ensures { IsFirstOf attempt.entry result }
 {

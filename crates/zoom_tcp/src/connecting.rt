@@ -376,6 +376,17 @@ impl<'a, S: Sockets> Attempt<'a, S> {
         }
     }
 
+    /// Does what `look_around` does, unless another has the network's poller.
+    fn look_if_free(&mut self, wait: bool)
+        ensures { AttemptStep S.AreFound S.IsOpening S.IsConnected self.old.addresses.items self.old.stage
+            self.new.addresses.items self.new.stage }
+    {
+        let network = self.network;
+        if let Ok(mut poller) = network.poller.try_borrow_mut() {
+            self.look_around(&mut poller, wait);
+        }
+    }
+
     /// Notes that the socket is connected.
     fn settle(&mut self)
         requires { IsSettled S.IsConnected self.old.stage }
@@ -408,14 +419,15 @@ impl<'a, S: Sockets> Attempt<'a, S> {
 }
 
 impl<'a, S: Sockets> Reach<HostSource<'a, S>, HostSink<'a, S>> for Attempt<'a, S> {
+    ghost IsFor = { λ name a. IsAttempt S.AreFound S.IsOpening S.IsConnected name a.addresses.items a.stage };
+
+    ghost IsOwn = { IsHostLink S.AreFound S.IsOpening S.IsConnected S.octets };
+
     fn look(
         &mut self,
         wait: bool,
     ) -> Result<Reached<HostSource<'a, S>, HostSink<'a, S>>, AllocError> {
-        let network = self.network;
-        if let Ok(mut poller) = network.poller.try_borrow_mut() {
-            self.look_around(&mut poller, wait);
-        }
+        self.look_if_free(wait);
         if self.pending_until().is_some() {
             return Ok(Reached::NotYet);
         }

@@ -143,15 +143,22 @@ impl<'a, S: Sockets> HostLink<'a, S> {
 impl<'a, S: Sockets> HostSource<'a, S> {
     /// Reads the octets that have come into the front of `piece`. Returns `None` if none have come yet. If `wait`
     /// holds, it first waits until octets come on any link of the network, for at most a quarter of a second.
-    fn hear(&mut self, piece: &mut [u8], wait: bool) -> Result<Option<usize>, Failed>
+    fn receive(&mut self, piece: &mut [u8], wait: bool) -> Result<Option<usize>, Failed>
         ensures bound { IsBoundedPoll result piece.new }
         ensures reads { AfterPoll
-            (record { octets = S.octets_left self.old.timed.socket.value self.old.cursor; failures = self.old.failures })
-            (record { octets = S.octets_left self.new.timed.socket.value self.new.cursor; failures = self.new.failures })
+            (record {
+              octets = S.octets_left self.old.timed.socket.value self.old.cursor;
+              failures = self.old.failures;
+            })
+            (record {
+              octets = S.octets_left self.new.timed.socket.value self.new.cursor;
+              failures = self.new.failures;
+            })
             result piece.new }
         ensures polls { self.new.polls ≡ polls_after self.old.polls result }
         ensures stays { 0 < self.old.failures → IsErr result }
-        ensures early { IfNotYet result (IsInTime S.IsMoment self.new.timed.limits self.new.timed.begun self.new.came_at) }
+        ensures early { IfNotYet result
+            (IsInTime S.IsMoment self.new.timed.limits self.new.timed.begun self.new.came_at) }
     {
         match self.look(piece, wait) {
             Ok(Some(0)) => Ok(Some(0)),
@@ -167,15 +174,19 @@ impl<'a, S: Sockets> HostSource<'a, S> {
         }
     }
 
-    /// Does what `hear` does, and counts nothing.
+    /// Does what `receive` does, and counts nothing.
     fn look(&mut self, piece: &mut [u8], wait: bool) -> Result<Option<usize>, Failed>
+        // the octets
         ensures bound { IsBoundedPoll result piece.new }
         ensures octets { IsPolled (S.octets_left self.old.timed.socket.value self.old.cursor)
             (S.octets_left self.new.timed.socket.value self.new.cursor) result piece.new }
+        // the counts
         ensures failures { self.new.failures ≡ self.old.failures }
         ensures polls { self.new.polls ≡ self.old.polls }
+        // after a failure, and if none have come yet
         ensures stays { 0 < self.old.failures → IsErr result }
-        ensures early { IfNotYet result (IsInTime S.IsMoment self.new.timed.limits self.new.timed.begun self.new.came_at) }
+        ensures early { IfNotYet result
+            (IsInTime S.IsMoment self.new.timed.limits self.new.timed.begun self.new.came_at) }
     {
         if self.failures > 0 {
             return Err(Failed);
@@ -253,7 +264,7 @@ impl<'a, S: Sockets> HostSource<'a, S> {
 impl<'a, S: Sockets> HostSink<'a, S> {
     /// Writes a front of `piece` without waiting. What the host does not take now is written by later polls of the
     /// source.
-    fn tell(&mut self, piece: &[u8]) -> Result<usize, Failed>
+    fn send(&mut self, piece: &[u8]) -> Result<usize, Failed>
         ensures bound { WritesAtMost result piece.now }
         ensures some { IfOk result (λ n. 0 < length piece.now → 0 < n) }
         ensures counts { IsCounted self.old.failures self.new.failures result }
@@ -268,7 +279,7 @@ impl<'a, S: Sockets> HostSink<'a, S> {
         }
     }
 
-    /// Does what `tell` does, and counts nothing.
+    /// Does what `send` does, and counts nothing.
     fn put(&self, piece: &[u8]) -> Result<usize, Failed>
         ensures bound { WritesAtMost result piece.now }
         ensures some { IfOk result (λ n. 0 < length piece.now → 0 < n) }
@@ -290,7 +301,7 @@ impl<'a, S: Sockets> NonBlocking for HostSource<'a, S> {
     ghost polls = { λ p. p.polls };
 
     fn poll(&mut self, piece: &mut [u8], wait: bool) -> Result<Option<usize>, Failed> {
-        self.hear(piece, wait)
+        self.receive(piece, wait)
     }
 
     fn failures(&self) -> u64 {
@@ -303,7 +314,7 @@ impl<'a, S: Sockets> Source for HostSource<'a, S> {
 
     fn read(&mut self, piece: &mut [u8]) -> Result<usize, Failed> {
         for _ in 0..u64::MAX {
-            match self.hear(piece, true)? {
+            match self.receive(piece, true)? {
                 Some(count) => return Ok(count),
                 None => {}
             }
@@ -321,7 +332,7 @@ impl<'a, S: Sockets> Sink for HostSink<'a, S> {
     ghost state = { λ p. record { octets = None; failures = p.failures } };
 
     fn write(&mut self, piece: &[u8]) -> Result<usize, Failed> {
-        self.tell(piece)
+        self.send(piece)
     }
 
     fn failures(&self) -> u64 {

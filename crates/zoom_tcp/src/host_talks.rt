@@ -1,7 +1,8 @@
 //! Talks with hosts at once, while other hosts are still being connected to.
-ghost use Rattle.std.specs.Prelude.{◌≡◌, ◌<◌, ◌≤◌, ◌^◌, ℕ, ◌+◌, length, IfOk, OnOk};
+ghost use Rattle.std.specs.Prelude.{◌≡◌, ◌<◌, ◌≤◌, ◌^◌, ℕ, ◌+◌, List, length, IfOk, OnOk};
+ghost use Rattle.zoom_tcp.specs.Asking.{KnownOctets};
 ghost use Rattle.zoom_tcp.specs.AskingSteps.{AfterOpen};
-ghost use Rattle.zoom_tcp.specs.HostTalks.{host_view, view_if, HostStep, HostsStep, AfterRoundOfHosts, AreHostsOver, IsHostOver, IsBegun};
+ghost use Rattle.zoom_tcp.specs.HostTalks.{host_view, view_if, IsReachedOver, HostStep, HostsStep, AfterRoundOfHosts, AreHostsOver, IsHostOver, IsBegun};
 
 use crate::opening::begin;
 use std::alloc::{AllocError, Global};
@@ -23,10 +24,18 @@ pub(crate) enum Reached<R, W> {
 }
 
 /// An attempt to reach a host.
-pub(crate) trait Reach<R, W> {
+pub(crate) trait Reach<R: NonBlocking, W> {
+    /// It is an attempt at the host of this name, `host:port`.
+    ghost IsFor: { List ℕ → Self → Type 0 };
+
+    /// These are all octets that come over a link to the host of this name.
+    ghost IsOwn: { List ℕ → KnownOctets → Type 0 };
+
     /// Looks how the attempt stands. If `wait` holds, it may wait for a change of any host, at most a quarter of a
-    /// second.
-    fn look(&mut self, wait: bool) -> Result<Reached<R, W>, AllocError>;
+    /// second. It stays an attempt at its host, and a link is one to that host.
+    fn look(&mut self, wait: bool) -> Result<Reached<R, W>, AllocError>
+        ensures stays { (name : List ℕ) → IsFor name self.old → IsFor name self.new }
+        ensures own { (name : List ℕ) → IsFor name self.old → IfOk result (IsReachedOver R.state (IsOwn name)) };
 }
 
 /// How far asking a host has come.
@@ -51,8 +60,8 @@ pub(crate) fn talk_with_all<A: Reach<R, W> + Drop, R: NonBlocking + Drop, W: Sin
 ) -> Result<(), AllocError>
     requires few { length meta.old.pool.connections < 2 ^ 32 }
     requires equal { length talks.old ≡ length meta.old.pool.connections }
-    ensures talks { OnOk result (HostsStep (host_view R.state R.polls W.state) 0 1000000000 talks.old talks.new
-        meta.old meta.new) }
+    ensures talks { OnOk result (HostsStep A.IsFor A.IsOwn (host_view R.state R.polls W.state) 0 1000000000 talks.old
+        talks.new meta.old meta.new) }
     ensures over { OnOk result (AreHostsOver (host_view R.state R.polls W.state) talks.new) }
     ensures size { length meta.new.pool.connections ≡ length meta.old.pool.connections }
     ensures hosts { length talks.new ≡ length talks.old }
@@ -70,8 +79,8 @@ fn go_rounds<A: Reach<R, W> + Drop, R: NonBlocking + Drop, W: Sink + Drop, V: Wa
 ) -> Result<(), AllocError>
     requires few { length meta.old.pool.connections < 2 ^ 32 }
     requires equal { length talks.old ≡ length meta.old.pool.connections }
-    ensures rounds { OnOk result (HostsStep (host_view R.state R.polls W.state) 0 1000000000 talks.old talks.new
-        meta.old meta.new) }
+    ensures rounds { OnOk result (HostsStep A.IsFor A.IsOwn (host_view R.state R.polls W.state) 0 1000000000 talks.old
+        talks.new meta.old meta.new) }
     ensures size { length meta.new.pool.connections ≡ length meta.old.pool.connections }
     ensures hosts { length talks.new ≡ length talks.old }
 {
@@ -114,8 +123,8 @@ fn go_round<A: Reach<R, W> + Drop, R: NonBlocking + Drop, W: Sink + Drop>(
 ) -> Result<bool, AllocError>
     requires few { length meta.old.pool.connections < 2 ^ 32 }
     requires equal { length talks.old ≡ length meta.old.pool.connections }
-    ensures round { OnOk result (AfterRoundOfHosts (host_view R.state R.polls W.state) talks.old talks.new
-        meta.old meta.new) }
+    ensures round { OnOk result (AfterRoundOfHosts A.IsFor A.IsOwn (host_view R.state R.polls W.state) talks.old
+        talks.new meta.old meta.new) }
     ensures size { length meta.new.pool.connections ≡ length meta.old.pool.connections }
     ensures hosts { length talks.new ≡ length talks.old }
 {
@@ -138,7 +147,7 @@ fn go_on<A: Reach<R, W> + Drop, R: NonBlocking + Drop, W: Sink + Drop>(
     wait: bool,
 ) -> Result<Part, AllocError>
     requires { c < length meta.old.pool.connections }
-    ensures steps { OnOk result ((n : ℕ) → n < 1000000000 → HostStep c n (n + 1) meta.old meta.new
+    ensures steps { OnOk result ((n : ℕ) → n < 1000000000 → HostStep A.IsFor A.IsOwn c n (n + 1) meta.old meta.new
         (host_view R.state R.polls W.state talk.old) (host_view R.state R.polls W.state talk.new)) }
     ensures size { length meta.new.pool.connections ≡ length meta.old.pool.connections }
 {
@@ -170,7 +179,9 @@ fn connect<A: Reach<R, W> + Drop, R: NonBlocking + Drop, W: Sink + Drop>(
     wait: bool,
 ) -> Result<Option<HostTalk<A, R, W>>, AllocError>
     requires { c < length meta.old.pool.connections }
-    ensures begun { IfOk result (λ next. IsBegun c (view_if (host_view R.state R.polls W.state) next) meta.old meta.new) }
+    ensures begun { (name : List ℕ) → A.IsFor name attempt.old → IfOk result (λ next. IsBegun (A.IsOwn name) c
+        (view_if (host_view R.state R.polls W.state) next) meta.old meta.new) }
+    ensures stays { (name : List ℕ) → A.IsFor name attempt.old → A.IsFor name attempt.new }
     ensures size { length meta.new.pool.connections ≡ length meta.old.pool.connections }
 {
     match attempt.look(wait)? {
@@ -191,15 +202,15 @@ fn connect<A: Reach<R, W> + Drop, R: NonBlocking + Drop, W: Sink + Drop>(
 
 /// Ends what is not over: stops a connection whose host is not reached for `Connect`, and one whose talk goes on for
 /// `Turns`.
-fn end_all<A: Drop, R: NonBlocking + Drop, W: Sink + Drop>(
+fn end_all<A: Reach<R, W> + Drop, R: NonBlocking + Drop, W: Sink + Drop>(
     alloc: Global,
     meta: &mut Meta,
     talks: &mut [HostTalk<A, R, W>],
 ) -> Result<(), AllocError>
     requires few { length meta.old.pool.connections < 2 ^ 32 }
     requires equal { length talks.old ≡ length meta.old.pool.connections }
-    ensures ends { OnOk result ((n : ℕ) → n ≤ 1000000000 → HostsStep (host_view R.state R.polls W.state) n n
-        talks.old talks.new meta.old meta.new) }
+    ensures ends { OnOk result ((n : ℕ) → n ≤ 1000000000 → HostsStep A.IsFor A.IsOwn
+        (host_view R.state R.polls W.state) n n talks.old talks.new meta.old meta.new) }
     ensures over { OnOk result (AreHostsOver (host_view R.state R.polls W.state) talks.new) }
     ensures size { length meta.new.pool.connections ≡ length meta.old.pool.connections }
     ensures hosts { length talks.new ≡ length talks.old }
@@ -211,14 +222,14 @@ fn end_all<A: Drop, R: NonBlocking + Drop, W: Sink + Drop>(
 }
 
 /// Ends a host's part if it is not over.
-fn end_one<A: Drop, R: NonBlocking + Drop, W: Sink + Drop>(
+fn end_one<A: Reach<R, W> + Drop, R: NonBlocking + Drop, W: Sink + Drop>(
     alloc: Global,
     meta: &mut Meta,
     c: u32,
     talk: &mut HostTalk<A, R, W>,
 ) -> Result<(), AllocError>
     requires { c < length meta.old.pool.connections }
-    ensures ends { OnOk result ((n : ℕ) → n ≤ 1000000000 → HostStep c n n meta.old meta.new
+    ensures ends { OnOk result ((n : ℕ) → n ≤ 1000000000 → HostStep A.IsFor A.IsOwn c n n meta.old meta.new
         (host_view R.state R.polls W.state talk.old) (host_view R.state R.polls W.state talk.new)) }
     ensures over { OnOk result (IsHostOver (host_view R.state R.polls W.state talk.new)) }
     ensures size { length meta.new.pool.connections ≡ length meta.old.pool.connections }

@@ -138,11 +138,14 @@ fn run_on<S: Read + Write>(
     targets: Vec<Target>,
     way: &mut Loopback<S>,
 ) -> Result<Meta, AllocError>
+    // the questions and the settings
     requires some { length questions.items < 2 ^ 32 }
     requires askable { AreAskable questions.items }
     requires fit { AreFit settings }
+    // a new target for each question
     requires new { AreNew targets.items }
     requires equal { length targets.items ≡ length questions.items }
+    // the run
     ensures { IfOk result (λ meta. IsRun questions.items settings targets.items meta) }
 {
     run_over(alloc, questions, settings, targets, way, &[])
@@ -204,11 +207,14 @@ pub fn run_loopback<N: Net>(
     settings: MetaSettings,
     targets: Vec<Target>,
 ) -> Result<Meta, ServeError>
+    // the questions and the settings
     requires some { length questions.items < 2 ^ 32 }
     requires askable { AreAskable questions.items }
     requires fit { AreFit settings }
+    // a new target for each question
     requires new { AreNew targets.items }
     requires equal { length targets.items ≡ length questions.items }
+    // the run
     ensures { IfOk result (λ meta. IsRun questions.items settings targets.items meta) }
 {
     let mut way = open_loopback(alloc, net, questions.len())?;

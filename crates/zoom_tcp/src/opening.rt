@@ -49,15 +49,19 @@ fn begin_all<'a, S: Sockets>(
     addresses: &[Option<Bytes>],
     attempts: &mut [Option<Attempt<'a, S>>],
 ) -> Result<Vec<Option<HostLink<'a, S>>>, AllocError>
+    // the connections, with an address and an attempt for each, or none
     requires few { length meta.old.pool.connections < 2 ^ 32 }
     requires equal { length addresses.now ≡ length meta.old.pool.connections }
     requires attempts { length attempts.old ≡ length addresses.now }
+    // attempts for their own hosts
     requires own { AreAttempts (halves_at addresses.now) attempts.old
         (λ name a. IsAttempt S.AreFound S.IsOpening S.IsConnected name a.addresses.items a.stage) }
+    // the links
     ensures opens { IfOk result (λ links. AfterOpenAll links.items
         (λ l. S.octets_left l.source.timed.socket.value l.source.cursor)
         (λ c. IsOwnLink S.AreFound S.IsOpening S.IsConnected S.octets (halves_at addresses.now c))
         (is_present addresses.now) meta.old meta.new) }
+    // how many connections and links
     ensures size { length meta.new.pool.connections ≡ length meta.old.pool.connections }
     ensures links { IfOk result (λ links. length links.items ≡ length addresses.now) }
 {

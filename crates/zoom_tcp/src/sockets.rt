@@ -43,8 +43,8 @@ pub enum ConnectProgress {
 /// Each change of a socket is reported once. The next change is reported after a call that moved nothing yet, and
 /// after a read that filled its room only in part.
 ///
-/// The contracts of `ask_over` and `ask_at_once_over` speak of what the calls here gave, by the ghost members. Sockets in
-/// memory can tell exactly what they are; those of a system tell what their values say.
+/// The contracts of `ask_over` and `ask_at_once_over` speak of what the calls here gave, by the ghost members. Sockets
+/// in memory can tell exactly what they are; those of a system tell what their values say.
 pub trait Sockets {
     ghost use Rattle.std.specs.declared.time.Duration.{Duration};
 

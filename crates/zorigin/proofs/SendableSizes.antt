@@ -12,7 +12,7 @@ use Rattle.zber.specs.AsnTags.{AsnTag}
 use Rattle.zber.specs.Canonical.{places, fronts, identifier, size, canonical_run, canonical}
 use Rattle.zber.specs.Elements.{Element, Primitive, Constructed, forest, height_of, height}
 use Rattle.zber.specs.Integers.{is_short, last_octet, shortest, integer_octets}
-use Rattle.zber.specs.Oids.{IsOid, groups, fronts as group_fronts, oid_octets, is_oid}
+use Rattle.zber.specs.Oids.{IsOid, groups, high_groups as group_fronts, oid_octets, is_oid}
 use Rattle.zber.proofs.CanonicalSteps.{canonical_before}
 use Rattle.zber.proofs.ElementSizes.{run_len}
 use Rattle.zber.proofs.OidTest.{is_oid_from_pass}

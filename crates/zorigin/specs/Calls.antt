@@ -63,10 +63,11 @@ abbrev pub is_latest_set : ℕ → Option (ℕ × Searched) → Bool
 is_latest_set set None = false
 is_latest_set set (Some latest) = latest.0 == set
 
+-- the last search that was admitted made the set; false if none was admitted
 abbrev pub is_latest : Standing → ℕ → Bool
 is_latest s set = is_latest_set set (slice_get s.searches (length s.searches - 1))
 
--- named result sets are not in force, and a later search was admitted
+-- named result sets are not in force, and the set is not that of the latest search
 abbrev pub set_replaced : Standing → Call → Bool
 set_replaced s (Present op set ranges) = not s.force.named && not (is_latest s set)
 set_replaced s _ = false

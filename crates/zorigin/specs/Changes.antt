@@ -24,13 +24,15 @@ use Rattle.zorigin.specs.declared.state.Searched.{Searched}
 use Rattle.zorigin.specs.Standings.{Call, Init, Search, Present, Close, Standing, ready, search_of}
 use Rattle.zorigin.specs.Calls.{refusal}
 
--- the operation of a call
+-- the operation of Init
 abbrev pub init_asked : Asked
 init_asked = record { op = 0; set = 0; what = what.Init }
 
+-- the operation of a search, by its number and its set
 abbrev pub search_asked : ℕ → ℕ → Asked
 search_asked op set = record { op = op; set = set; what = what.Search }
 
+-- the operation of a Present, by its number, its set and the ranges of its positions
 abbrev pub present_asked : ℕ → ℕ → List Range → Asked
 present_asked op set ranges = record { op = op; set = set; what = what.Present ranges }
 
@@ -56,6 +58,7 @@ admitted_at s (Search op set ask) = record (with_asked s (search_asked op set)) 
 admitted_at s (Present op set ranges) = with_asked s (present_asked op set ranges)
 admitted_at s Close = record s { state = states.Closing }
 
+-- the origin after a call that is refused for this reason, or admitted if there is none
 abbrev pub admitted_unless : Standing → Call → Option CallRefused → Standing
 admitted_unless s call None = admitted_at s call
 admitted_unless s call (Some reason) = s
@@ -82,10 +85,12 @@ outcome_in (apdus.SearchResponse v) =
     if v.search_status then Some (outcomes.Found v.result_count) else Some outcomes.Failed
 outcome_in _ = None
 
+-- the search, with the outcome if it is the operation that was answered
 abbrev pub noted_if : Bool → Option Outcome → Searched → Searched
 noted_if true outcome searched = record searched { outcome = outcome }
 noted_if false outcome searched = searched
 
+-- the searches after the operation was answered, given the search of its set; unchanged if there is none
 abbrev pub noted_at : Asked → Option Outcome → List (ℕ × Searched) → Option Searched → List (ℕ × Searched)
 noted_at asked outcome searches None = searches
 noted_at asked outcome searches (Some searched) =

@@ -55,6 +55,7 @@ present_facts target set asked v =
     seen_at target set asked (records_in v.records)
     ++ diagnostic_facts target set (pos (first_of asked)) (diagnostics_in v.records)
 
+-- the facts of the target's reply to an operation on this set; none if the reply is of another kind
 abbrev pub facts_by : ℕ → ℕ → What → Apdu → List Fact
 facts_by target set what.Init (apdus.InitResponse v) = init_facts target v
 facts_by target set what.Search (apdus.SearchResponse v) = search_facts target set v

@@ -29,10 +29,12 @@ diagnostics_in (Some (kinds.OneDiag diag)) = Default diag ∷ []
 diagnostics_in (Some (kinds.ManyDiags diags)) = diags
 diagnostics_in _ = []
 
+-- the list has nothing in it, as a test for the rows of a table
 abbrev pub is_empty : {X : Type 0} → List X → Bool
 is_empty [] = true
 is_empty (x ∷ xs) = false
 
+-- the record is a fragment, one of those that segmentation makes of a record
 abbrev pub is_fragment : RecordBody → Bool
 is_fragment (bodies.Fragment node) = true
 is_fragment _ = false
@@ -85,20 +87,25 @@ abbrev pub is_more_than : ℕ → ℤ → Bool
 is_more_than k (pos n) = nat_lt n k
 is_more_than k (negsuc n) = true
 
+-- no diagnostics came, and numberOfRecordsReturned is not the number of the records
 abbrev pub count_mismatch : Option Records → ℤ → Bool
 count_mismatch records n = is_empty (diagnostics_in records) && not (is_number n (length (records_in records)))
 
+-- resultCount is negative
 abbrev pub bad_number : SearchResponse → Bool
 bad_number v = int_lt v.result_count (pos 0)
 
+-- there are more records than resultCount, or a fragment is among them
 abbrev pub bad_search : SearchResponse → Bool
 bad_search v = is_more_than (length (records_in v.records)) v.result_count || has_fragment v.records
 
+-- there are more records than positions asked for, or a fragment, or neither a record nor a diagnostic
 abbrev pub bad_present : List ℕ → PresentResponse → Bool
 bad_present asked v =
     nat_lt (length asked) (length (records_in v.records)) || has_fragment v.records
     || (is_empty (records_in v.records) && is_empty (diagnostics_in v.records))
 
+-- why the response does not fit a search: the first row that is true; none if it fits
 abbrev pub search_fault : SearchResponse → Option Refused
 search_fault v = first_row (
     (count_mismatch v.records v.number_of_records_returned, refused.CountMismatch)
@@ -106,6 +113,7 @@ search_fault v = first_row (
     ∷ (bad_search v, refused.BadShape)
     ∷ [])
 
+-- why the response does not fit a Present of these positions: the first row that is true; none if it fits
 abbrev pub present_fault : List ℕ → PresentResponse → Option Refused
 present_fault asked v = first_row (
     (count_mismatch v.records v.number_of_records_returned, refused.CountMismatch)

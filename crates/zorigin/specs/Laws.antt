@@ -13,6 +13,7 @@ use Rattle.zorigin.specs.Sending.{request_of, sent_of}
 use Rattle.zorigin.specs.Calls.{call_result}
 use Rattle.zorigin.specs.Log.{Past, asked, op_of, searches_in}
 
+-- the number of the set that the search makes
 abbrev pub searched_set : Searched → ℕ
 searched_set searched = searched.set
 

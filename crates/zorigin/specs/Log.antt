@@ -84,10 +84,12 @@ outstanding p = filter (λ (q : Asked). not (is_answered p q.op)) (asked p)
 
 -- ---- the association
 
+-- the operation asks for the association itself
 abbrev pub is_init : What → Bool
 is_init what.Init = true
 is_init _ = false
 
+-- the reply is to Init, whether it accepts the association or rejects it
 abbrev pub is_opening : Answer → Bool
 is_opening answer = is_init answer.asked.what
 
@@ -95,10 +97,12 @@ is_opening answer = is_init answer.asked.what
 abbrev pub opening : Past → Option Answer
 opening p = find is_opening p.accepted
 
+-- the call asks for the association (3.2.1.1)
 abbrev pub is_init_call : Call → Bool
 is_init_call Init = true
 is_init_call _ = false
 
+-- the call asks to end the association (3.2.11.1)
 abbrev pub is_close_call : Call → Bool
 is_close_call Close = true
 is_close_call _ = false
@@ -108,10 +112,12 @@ abbrev pub force_by : Apdu → InForce
 force_by (apdus.InitResponse v) = if v.result then force_in v else nothing_in_force
 force_by _ = nothing_in_force
 
+-- what is in force after the reply to Init; nothing while it has not come
 abbrev pub force_after : Option Answer → InForce
 force_after None = nothing_in_force
 force_after (Some answer) = force_by answer.reply
 
+-- the state that the reply to Init leads to: Ready if it accepts the association, else Closed
 abbrev pub state_by : Apdu → State
 state_by (apdus.InitResponse v) = if v.result then ready (force_in v) else states.Closed
 state_by _ = states.Closed
@@ -132,6 +138,8 @@ abbrev pub failed_or : State → Option Refused → State
 failed_or other None = other
 failed_or other (Some reason) = states.Failed reason
 
+-- the state, from the latest fault, whether the target's Close was taken, whether Close and Init were admitted, and
+-- the reply to Init
 abbrev pub state_from : Option Refused → Bool → Bool → Bool → Option Answer → State
 state_from fault closed closing begun answer =
     failed_or (if closed then states.Closed else closing_state closing (opened_state begun answer)) fault
@@ -143,10 +151,12 @@ state_of p =
 
 -- ---- the searches
 
+-- the search that a call makes, not answered yet; none for another call
 abbrev pub search_in : Call → List Searched
 search_in (Search op set ask) = unanswered op set ask ∷ []
 search_in _ = []
 
+-- the outcome of a search, by the reply to it; none while no reply was accepted
 abbrev pub outcome_by : Option Answer → Option Outcome
 outcome_by None = None
 outcome_by (Some answer) = outcome_in answer.reply
@@ -161,12 +171,15 @@ searches_in p = map (with_outcome p.accepted) (flat_map search_in p.admitted)
 
 -- ---- what the tables ask
 
+-- an operation with its number, as `Standing` lists the outstanding ones
 abbrev pub by_operation : Asked → ℕ × Asked
 by_operation q = (q.op, q)
 
+-- a search with its set, as `Standing` lists the searches
 abbrev pub by_set : Searched → ℕ × Searched
 by_set searched = (searched.set, searched)
 
+-- the number of an operation, 0 for Init
 abbrev pub op_of : Asked → ℕ
 op_of q = q.op
 
@@ -183,6 +196,7 @@ standing p = record {
 
 -- ---- one entry more
 
+-- the requests that an admitted call adds to those sent: one, or none
 abbrev pub request_list : Option Apdu → List Apdu
 request_list None = []
 request_list (Some apdu) = apdu ∷ []
@@ -194,6 +208,7 @@ admit p call = record p {
   sent = p.sent ++ request_list (request_of (standing p) call);
 }
 
+-- the past after a call that is refused for this reason, or admitted if there is none
 abbrev pub admit_unless : Past → Call → Option CallRefused → Past
 admit_unless p call None = admit p call
 admit_unless p call (Some reason) = p

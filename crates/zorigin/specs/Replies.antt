@@ -18,6 +18,7 @@ abbrev pub only_of : List (ℕ × Asked) → Option Asked
 only_of (e ∷ []) = Some e.1
 only_of _ = None
 
+-- the outstanding operation with the number in a reference id, if the id has one and an operation has it
 abbrev pub numbered_as : List (ℕ × Asked) → Option ℕ → Option Asked
 numbered_as outstanding None = None
 numbered_as outstanding (Some op) = lookup (nat_eq op) outstanding
@@ -33,6 +34,7 @@ abbrev pub taken_by : Answer → Apdu → Taken
 taken_by answer (apdus.InitResponse v) = if v.result then taken.Opened answer else taken.Rejected answer
 taken_by answer _ = taken.Answered answer
 
+-- the result for an accepted answer, by its reply: Opened, Rejected or Answered
 abbrev pub taken_as : Answer → Taken
 taken_as answer = taken_by answer answer.reply
 

@@ -40,6 +40,7 @@ options =
     true ∷ true ∷ false ∷ false ∷ false ∷ false ∷ false ∷ false ∷ false ∷ false ∷ false ∷ false ∷ false
     ∷ true ∷ true ∷ []
 
+-- the fields of an InitRequest (3.2.1.1): 1,048,576 octets are offered for records, and for one record
 abbrev pub init_value : Settings → InitRequest
 init_value settings = record {
   reference_id = Some (reference_id 0);
@@ -55,6 +56,7 @@ init_value settings = record {
   other_info = None;
 }
 
+-- the request of Init, with the implementationName of the settings
 abbrev pub init_request : Settings → Apdu
 init_request settings = apdus.InitRequest (init_value settings)
 
@@ -67,10 +69,13 @@ abbrev pub element_set : Option (List ℕ) → Option ElementSetNames
 element_set None = None
 element_set (Some name) = Some (Generic name)
 
+-- the element set of a Present, one for all databases; none if its search named none
 abbrev pub composition : Option (List ℕ) → Option RecordComposition
 composition None = None
 composition (Some name) = Some (Simple (Generic name))
 
+-- the fields of a SearchRequest (3.2.2.1): a set of the same name is replaced, and small and medium sets have the
+-- same element set
 abbrev pub search_value : Bool → ℕ → ℕ → Ask → SearchRequest
 search_value named op set ask = record {
   reference_id = Some (reference_id op);
@@ -88,9 +93,11 @@ search_value named op set ask = record {
   other_info = None;
 }
 
+-- the request of a search: its reference id has the operation's number, and `named` decides how its set is named
 abbrev pub search_request : Bool → ℕ → ℕ → Ask → Apdu
 search_request named op set ask = apdus.SearchRequest (search_value named op set ask)
 
+-- a range as additionalRanges of a PresentRequest has it
 abbrev pub sent_range : Range → SentRange
 sent_range r = record { starting_position = r.start; number_of_records = r.n }
 
@@ -115,6 +122,7 @@ present_value named op first others searched = record {
   other_info = None;
 }
 
+-- the request of a Present, for the first range and the others, of the set that the search made
 abbrev pub present_request : Bool → ℕ → Range → List Range → Searched → Apdu
 present_request named op first others searched = apdus.PresentRequest (present_value named op first others searched)
 
@@ -129,6 +137,7 @@ close_value = record {
   other_info = None;
 }
 
+-- the request of Close, without a reference id
 abbrev pub close_request : Apdu
 close_request = apdus.Close close_value
 

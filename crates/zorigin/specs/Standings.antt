@@ -32,10 +32,12 @@ pub record Standing : Type 0 where
   -- the operations that are admitted and unanswered, by number, in the order of their calls
   pub outstanding : List (ℕ × Asked)
 
+-- no Init was admitted yet, and no other call can be
 abbrev pub is_fresh : State → Bool
 is_fresh states.Fresh = true
 is_fresh _ = false
 
+-- the association was accepted, no Close was admitted or taken, and no reply was refused
 abbrev pub is_ready : State → Bool
 is_ready (states.Ready v3 concurrent named) = true
 is_ready _ = false
@@ -47,9 +49,11 @@ is_open (states.Ready v3 concurrent named) = true
 is_open states.Closing = true
 is_open _ = false
 
+-- neither an option nor version 3 is in force, which is so unless the association was accepted
 abbrev pub nothing_in_force : InForce
 nothing_in_force = record { search = false; present = false; v3 = false; concurrent = false; named = false }
 
+-- the state Ready, with what it shows of the options and the version in force
 abbrev pub ready : InForce → State
 ready force = states.Ready force.v3 force.concurrent force.named
 
@@ -57,6 +61,7 @@ ready force = states.Ready force.v3 force.concurrent force.named
 abbrev pub search_of : List (ℕ × Searched) → ℕ → Option Searched
 search_of searches set = lookup (nat_eq set) searches
 
+-- the search was answered, and its searchStatus was true
 abbrev pub is_found : Option Outcome → Bool
 is_found (Some (outcomes.Found count)) = true
 is_found _ = false

@@ -9,7 +9,7 @@ use Rattle.zplan.specs.declared.entry.Entry.{Entry}
 use Rattle.zplan.specs.declared.uncut.Uncut.{Uncut}
 use Rattle.zplan.specs.declared.uncut.Cut.{Cut}
 use Rattle.zplan.specs.Positions.{IsIn, IsFrom, AreAscending, IsWanted, first_of, up_to}
-use Rattle.zplan.specs.Ranges.{positions, positions_of, places, span_of, range_of, clip, IsApart, IsBounded, AreNonempty, InOrder, ArePresentRanges, AreWanted}
+use Rattle.zplan.specs.Ranges.{positions, positions_of, places, span_of, range_of, clip, IsApart, IsBounded, AreNonempty, AreInOrder, ArePresentRanges, AreWanted}
 use Rattle.zplan.specs.Agenda.{SameAgenda, IsFirst, AfterNoteSent, AfterNoteAnswered, put_list, without_start, whole_agenda}
 use Rattle.zplan.specs.Schedules.{lists_of, due_of, waiting_of, has_due, agenda_of, uncut_positions, uncut_lists, IsAskableList, AreAskableLists, IsSound, IsFirstCut, after_cut, IsDueAt, IsWaitingAt}
 use Rattle.zplan.proofs.Cuts.{in_left, in_right, some_deal, concat_deal, places_ascend}
@@ -50,7 +50,7 @@ from_all : (low : ℕ) (ps : List ℕ) → ((x : ℕ) → IsIn x ps → low ≤ 
 from_all low [] h = tt
 from_all low (p ∷ ps) h = (h p (inl refl), from_all low ps (λ x i. h x (inr i)))
 
-in_order : (low : ℕ) (list : List Span) → AreNonempty list → IsFrom low (places list) → AreAscending (places list) → InOrder low (map range_of list)
+in_order : (low : ℕ) (list : List Span) → AreNonempty list → IsFrom low (places list) → AreAscending (places list) → AreInOrder low (map range_of list)
 in_order low [] have from up = tt
 in_order low (r ∷ rs) have from up =
     let some = have.0 in

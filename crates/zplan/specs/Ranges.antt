@@ -64,16 +64,16 @@ pub record AreWanted (ranges : List Range) : Type 0 where
   pub bounded : IsBounded (map span_of ranges)
 
 -- each range has positions and begins after the end of the one before, the first at `low` or later
-abbrev pub InOrder : ℕ → List Range → Type 0
-InOrder low [] = Unit {0}
-InOrder low (r ∷ rs) =
-    (low ≤ natural r.start) × (0 < natural r.n) × InOrder (natural r.start + natural r.n) rs
+abbrev pub AreInOrder : ℕ → List Range → Type 0
+AreInOrder low [] = Unit {0}
+AreInOrder low (r ∷ rs) =
+    (low ≤ natural r.start) × (0 < natural r.n) × AreInOrder (natural r.start + natural r.n) rs
 
 -- Ranges that a Present can ask for: there is one at least; each begins after the end of the one before, the first at
 -- position 1 or later; no position is above 2,147,483,647.
 pub record ArePresentRanges (ranges : List Range) : Type 0 where
   pub some : ranges ≡ [] → ⊥
-  pub order : InOrder 1 ranges
+  pub order : AreInOrder 1 ranges
   pub bounded : IsBounded (map span_of ranges)
 
 -- how many positions of the range are up to the count, if it begins there

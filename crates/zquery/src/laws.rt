@@ -1,5 +1,5 @@
 // Laws of the definitions, each the contract of a function that does nothing.
-ghost use Rattle.zquery.specs.Notation.Laws.{OneLexing, SetNames, OneQuery, NoneRefused, FirstFault, TooDeepAlone, OneQueryOrFault, PrintedReads, TextPrintable, TextSpellable};
+ghost use Rattle.zquery.specs.Notation.Laws.{OneLexing, SetNames, OneQuery, NoneRefused, FirstFault, TooDeepAlone, OneQueryOrFault, PrintedQueries, PrintableTexts, SpellableTexts};
 
 /// A text has one list of tokens at most, or one quote that no quote closes, and not both.
 pub fn one_lexing()
@@ -40,15 +40,15 @@ pub fn one_answer()
 
 /// The text that is printed for a query stands for this query.
 pub fn printed_reads()
-    ensures { PrintedReads }
+    ensures { PrintedQueries }
 {}
 
 /// If a text stands for a query of height 32 at most, the query can be printed.
 pub fn text_printable()
-    ensures { TextPrintable }
+    ensures { PrintableTexts }
 {}
 
 /// If a text stands for a query, some element stands for it too.
 pub fn text_spellable()
-    ensures { TextSpellable }
+    ensures { SpellableTexts }
 {}

@@ -55,5 +55,5 @@ fn is_named(alloc: Global, row: &str) -> Result<bool, Unread> {
 
 #[test]
 fn texts_name_object_identifiers(rt: HostRuntime) -> Result<(), Fail> {
-    each_row(rt.alloc(), NAMED, &is_named)
+    each_row(rt.alloc(), NAMED, is_named)
 }

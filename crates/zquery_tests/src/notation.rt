@@ -6,9 +6,9 @@ use std::alloc::{AllocError, Global};
 use std::process::Abort;
 use std::test::Fail;
 use zber::{Node, Oid, Seq, Tag};
-use zber_tests::rows::{each_row, halves, is_true, tells, unescape};
+use zber_tests::rows::{each_row, halves, is_true, spells, tells, unescape};
 use zber_tests::unread::{Unread, read};
-use zquery::{Attr, AttrValue, PrintError, Query, Rpn, TermValue, tokens};
+use zquery::{Attr, AttrValue, PrintError, Query, Rpn, TermValue, Token, tokens};
 
 // Texts, and what their queries are printed as.
 const PRINTED: &str = r#"dune => "dune"
@@ -43,24 +43,30 @@ const PRINTED: &str = r#"dune => "dune"
 "#;
 
 fn is_copied(alloc: Global, query: &Query, due: &[u8]) -> Result<bool, Unread> {
-    let copy = query_copy(alloc, query)?;
-    Ok(is_printed(alloc, &copy, due))
+    match query_copy(alloc, query) {
+        Ok(copy) => Ok(is_printed(alloc, &copy, due)),
+        Err(_) => Err(Unread),
+    }
 }
 
 fn is_text(alloc: Global, text: &[u8], due: &[u8]) -> Result<bool, Unread> {
-    let query = parse(alloc, text)?;
+    let Ok(query) = parse(alloc, text) else {
+        return Err(Unread);
+    };
     is_copied(alloc, &query, due)
 }
 
 fn is_row(alloc: Global, row: &str) -> Result<bool, Unread> {
     let (text, due) = halves(row);
-    let text = unescape(alloc, text)?;
+    let Ok(text) = unescape(alloc, text) else {
+        return Err(Unread);
+    };
     is_text(alloc, text.as_slice(), due.as_bytes())
 }
 
 #[test]
 fn texts_are_printed(rt: HostRuntime) -> Result<(), Fail> {
-    each_row(rt.alloc(), PRINTED, &is_row)
+    each_row(rt.alloc(), PRINTED, is_row)
 }
 
 // Refusals, and texts that are refused.
@@ -173,49 +179,57 @@ Trailing at 4 => a"b c"
 
 fn is_refusal(alloc: Global, row: &str) -> Result<bool, Unread> {
     let (due, text) = halves(row);
-    let text = unescape(alloc, text)?;
+    let Ok(text) = unescape(alloc, text) else {
+        return Err(Unread);
+    };
     Ok(tells(refusal(alloc, text.as_slice()), due))
 }
 
 #[test]
 fn texts_are_refused_at_their_faults(rt: HostRuntime) -> Result<(), Fail> {
-    each_row(rt.alloc(), REFUSED, &is_refusal)
+    each_row(rt.alloc(), REFUSED, is_refusal)
 }
 
 // Tokens with their places, each on a line, quoted ones in quotes.
+fn put_token(alloc: Global, token: &Token, out: &mut Vec<u8>) -> Result<(), AllocError> {
+    let mark = if token.quoted { 'q' } else { '-' };
+    let Ok(place) = format!(in alloc; "{} {mark} ", token.at) else {
+        return Err(AllocError);
+    };
+    if out.extend_from_slice(place.as_bytes()).is_err()
+        || out.extend_from_slice(token.text.as_slice()).is_err()
+    {
+        return Err(AllocError);
+    }
+    out.extend_from_slice(b";")
+}
+
 fn list_tokens(alloc: Global, text: &[u8]) -> Result<Vec<u8>, Unread> {
+    let Ok(tokens) = tokens(alloc, text) else {
+        return Err(Unread);
+    };
     let mut out = Vec::new(alloc);
-    for token in read(tokens(alloc, text))?.iter() {
-        let place = token.at.to_string(alloc)?;
-        out.extend_from_slice(place.as_bytes())?;
-        out.extend_from_slice(if token.quoted { b" q " } else { b" - " })?;
-        out.extend_from_slice(token.text.as_slice())?;
-        out.push(b';')?;
+    for token in tokens.iter() {
+        if put_token(alloc, token, &mut out).is_err() {
+            return Err(Unread);
+        }
     }
     Ok(out)
 }
 
 #[test]
 fn tokens_have_their_places(rt: HostRuntime) -> Result<(), Fail> {
-    let found = list_tokens(rt.alloc(), b"a \"b c\"")?;
-    assert!(rt; found.as_slice() == b"0 - a;2 q b c;".as_slice());
+    assert!(rt; spells(list_tokens(rt.alloc(), b"a \"b c\""), b"0 - a;2 q b c;"));
     Ok(())
-}
-
-fn bib_1(alloc: Global) -> Result<Oid, Unread> {
-    Ok(Oid::from_arcs(alloc, &[1, 2, 840, 10003, 3, 1])?)
 }
 
 // Whether the query has no text, and what was there before stays.
 pub(crate) fn has_no_text(alloc: Global, query: &Query) -> Result<bool, AllocError> {
-    let mut out = b"kept".to_vec(alloc)?;
+    let Ok(mut out) = b"kept".to_vec(alloc) else {
+        return Err(AllocError);
+    };
     let answer = print(alloc, query, &mut out);
     Ok(answer == Err(PrintError::NotPrintable) && out.as_slice() == b"kept".as_slice())
-}
-
-fn is_refused(alloc: Global, attr_set: Oid, root: Rpn) -> Result<bool, AllocError> {
-    let query = box_value(alloc, Query { attr_set, root })?;
-    has_no_text(alloc, &query)
 }
 
 fn opaque(alloc: Global) -> Node {
@@ -230,22 +244,33 @@ fn numeric(alloc: Global) -> Rpn {
 }
 
 fn either(alloc: Global, first: Rpn) -> Result<Rpn, AllocError> {
-    let left = Box::new(alloc, first)?;
-    let right = Box::new(alloc, numeric(alloc))?;
+    let Ok(left) = Box::new(alloc, first) else {
+        return Err(AllocError);
+    };
+    let Ok(right) = Box::new(alloc, numeric(alloc)) else {
+        return Err(AllocError);
+    };
     Ok(Rpn::Or(left, right))
 }
 
 fn high(alloc: Global, operators: u32) -> Result<Rpn, AllocError> {
     let mut root = numeric(alloc);
     for _ in 0..operators {
-        root = either(alloc, root)?;
+        let Ok(next) = either(alloc, root) else {
+            return Err(AllocError);
+        };
+        root = next;
     }
     Ok(root)
 }
 
 pub(crate) fn proximity_of(alloc: Global, operator: Node) -> Result<Rpn, AllocError> {
-    let left = Box::new(alloc, numeric(alloc))?;
-    let right = Box::new(alloc, numeric(alloc))?;
+    let Ok(left) = Box::new(alloc, numeric(alloc)) else {
+        return Err(AllocError);
+    };
+    let Ok(right) = Box::new(alloc, numeric(alloc)) else {
+        return Err(AllocError);
+    };
     Ok(Rpn::Prox(operator, left, right))
 }
 
@@ -280,7 +305,9 @@ pub(crate) fn make_attr(attr_set: Option<Oid>, kind: i64, value: AttrValue) -> A
 }
 
 fn one(alloc: Global, attr: Attr) -> Result<Rpn, AllocError> {
-    let attrs = vec![in alloc; attr]?;
+    let Ok(attrs) = vec![in alloc; attr] else {
+        return Err(AllocError);
+    };
     Ok(term_with(attrs))
 }
 
@@ -292,23 +319,40 @@ pub(crate) fn complex(alloc: Global, node: Node) -> Result<Rpn, AllocError> {
     one(alloc, make_attr(None, 1, AttrValue::Complex(node)))
 }
 
-// An attribute that names this set.
-fn name_set(alloc: Global, attr_set: Oid) -> Result<Rpn, AllocError> {
-    one(alloc, make_attr(Some(attr_set), 1, AttrValue::Number(4)))
+// An attribute that names the set bib-1.
+fn name_set(alloc: Global) -> Result<Rpn, AllocError> {
+    match Oid::from_arcs(alloc, &[1, 2, 840, 10003, 3, 1]) {
+        Ok(attr_set) => one(alloc, make_attr(Some(attr_set), 1, AttrValue::Number(4))),
+        Err(_) => Err(AllocError),
+    }
 }
 
 fn double(alloc: Global) -> Result<Rpn, AllocError> {
     let first = make_attr(None, 1, AttrValue::Number(4));
     let second = make_attr(None, 1, AttrValue::Number(4));
-    let attrs = vec![in alloc; first, second]?;
+    let Ok(attrs) = vec![in alloc; first, second] else {
+        return Err(AllocError);
+    };
     Ok(term_with(attrs))
+}
+
+// The query of a root under bib-1.
+pub(crate) fn bib_1_query(alloc: Global, root: Rpn) -> Result<Box<Query>, Unread> {
+    match Oid::from_arcs(alloc, &[1, 2, 840, 10003, 3, 1]) {
+        Ok(attr_set) => read(box_value(alloc, Query { attr_set, root })),
+        Err(_) => Err(Unread),
+    }
 }
 
 // Whether a root under bib-1 has no text.
 fn textless(alloc: Global, root: Result<Rpn, AllocError>) -> Result<bool, Unread> {
-    let root = root?;
-    let attr_set = Oid::from_arcs(alloc, &[1, 2, 840, 10003, 3, 1])?;
-    Ok(is_refused(alloc, attr_set, root)?)
+    let Ok(root) = root else {
+        return Err(Unread);
+    };
+    match bib_1_query(alloc, root) {
+        Ok(query) => read(has_no_text(alloc, &query)),
+        Err(_) => Err(Unread),
+    }
 }
 
 #[test]
@@ -325,7 +369,7 @@ fn some_attributes_have_no_text(rt: HostRuntime) -> Result<(), Fail> {
     let alloc = rt.alloc();
     assert!(rt; is_true(textless(alloc, complex(alloc, opaque(alloc)))));
     assert!(rt; is_true(textless(alloc, double(alloc))));
-    assert!(rt; is_true(textless(alloc, name_set(alloc, bib_1(alloc)?))));
+    assert!(rt; is_true(textless(alloc, name_set(alloc))));
     Ok(())
 }
 

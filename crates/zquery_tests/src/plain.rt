@@ -2,18 +2,23 @@
 //! needs the contracts, and what is proved of a function is dear where it owns a large value.
 use std::alloc::{AllocError, Global};
 use zber::{Body, Node};
-use zber_tests::unread::{self, Unread};
+use zber_tests::unread::{Unread, read};
 use zquery::{BuildError, PqfError, PrintError, Query};
 
 /// A value in a box.
 pub fn box_value<T: Drop>(alloc: Global, value: T) -> Result<Box<T>, AllocError> {
-    Ok(Box::new(alloc, value)?)
+    match Box::new(alloc, value) {
+        Ok(value) => Ok(value),
+        Err(_) => Err(AllocError),
+    }
 }
 
 /// The query of a text in prefix notation.
 pub fn parse(alloc: Global, text: &[u8]) -> Result<Box<Query>, Unread> {
-    let query = unread::read(zquery::parse_pqf(alloc, text))?;
-    Ok(box_value(alloc, query)?)
+    let Ok(query) = zquery::parse_pqf(alloc, text) else {
+        return Err(Unread);
+    };
+    read(box_value(alloc, query))
 }
 
 /// Why a text is refused.
@@ -33,20 +38,26 @@ pub fn query_node(alloc: Global, query: &Query) -> Result<Node, BuildError> {
 
 /// The query of an element, in a box.
 pub fn query_of(alloc: Global, node: &Node) -> Result<Box<Query>, Unread> {
-    let query = zquery::from_node(alloc, node)?.ok_or(Unread)?;
-    Ok(box_value(alloc, query)?)
+    match zquery::from_node(alloc, node) {
+        Ok(Some(query)) => read(box_value(alloc, query)),
+        _ => Err(Unread),
+    }
 }
 
 /// Whether an element is a query.
 pub fn is_query(alloc: Global, node: &Node) -> Result<bool, AllocError> {
-    let absent = zquery::from_node(alloc, node)?.ok_or(()).err();
-    Ok(absent.is_none())
+    match zquery::from_node(alloc, node) {
+        Ok(query) => Ok(query.ok_or(()).err().is_none()),
+        Err(error) => Err(error),
+    }
 }
 
 /// An equal query, in a box.
 pub fn query_copy(alloc: Global, query: &Query) -> Result<Box<Query>, AllocError> {
-    let copy = query.copy(alloc)?;
-    box_value(alloc, copy)
+    match query.copy(alloc) {
+        Ok(copy) => box_value(alloc, copy),
+        Err(error) => Err(error),
+    }
 }
 
 /// The element within the element that stands in a SearchRequest's place for a query.
@@ -60,6 +71,8 @@ pub fn inner(node: &Node) -> Option<&Node> {
 /// The text of a query.
 pub fn query_text(alloc: Global, query: &Query) -> Result<Vec<u8>, Unread> {
     let mut text = Vec::new(alloc);
-    unread::read(print(alloc, query, &mut text))?;
-    Ok(text)
+    match print(alloc, query, &mut text) {
+        Ok(()) => Ok(text),
+        Err(_) => Err(Unread),
+    }
 }

@@ -5,14 +5,18 @@ use std::alloc::{AllocError, Global};
 use std::process::Abort;
 use std::test::Fail;
 use zber::{Node, Tag};
-use zber_tests::rows::{each_row, element, encoding, halves, is_true, spells, tells, unescape};
-use zber_tests::unread::{self, Unread};
+use zber_tests::rows::{each_row, element, encoding, halves, spells, tells, unescape};
+use zber_tests::unread::{Unread, read};
 use zquery::Query;
 
 // The element in a SearchRequest's place for a query.
 fn wrap_query(alloc: Global, query: &Query) -> Result<Node, Unread> {
-    let node = unread::read(query_node(alloc, query))?;
-    let nodes = vec![in alloc; node]?;
+    let Ok(node) = query_node(alloc, query) else {
+        return Err(Unread);
+    };
+    let Ok(nodes) = vec![in alloc; node] else {
+        return Err(Unread);
+    };
     Ok(Node::cons(Tag::context(21), nodes))
 }
 
@@ -24,9 +28,11 @@ pub(crate) fn unwrap_query(alloc: Global, node: &Node) -> Result<Box<Query>, Unr
 }
 
 // The query of an element's digits.
-fn read(alloc: Global, digits: &str) -> Result<Box<Query>, Unread> {
-    let node = element(alloc, digits)?;
-    unwrap_query(alloc, &node)
+pub(crate) fn inner_query(alloc: Global, digits: &str) -> Result<Box<Query>, Unread> {
+    match element(alloc, digits) {
+        Ok(node) => unwrap_query(alloc, &node),
+        Err(_) => Err(Unread),
+    }
 }
 
 // Whether this is the query's text.
@@ -35,8 +41,10 @@ pub(crate) fn is_printed(alloc: Global, query: &Query, due: &[u8]) -> bool {
 }
 
 fn encode_query(alloc: Global, query: &Query) -> Result<String, Unread> {
-    let node = wrap_query(alloc, query)?;
-    Ok(encoding(alloc, &node)?)
+    match wrap_query(alloc, query) {
+        Ok(node) => read(encoding(alloc, &node)),
+        Err(_) => Err(Unread),
+    }
 }
 
 fn is_encoded(alloc: Global, query: &Query, digits: &str) -> bool {
@@ -48,34 +56,33 @@ fn is_both(alloc: Global, query: &Query, text: &[u8], digits: &str) -> bool {
     is_printed(alloc, query, text) && is_encoded(alloc, query, digits)
 }
 
-fn parses(alloc: Global, text: &[u8], due: &[u8], digits: &str) -> Result<bool, Unread> {
-    let query = parse(alloc, text)?;
-    Ok(is_both(alloc, &query, due, digits))
-}
-
-fn decodes(alloc: Global, due: &[u8], digits: &str) -> Result<bool, Unread> {
-    let query = read(alloc, digits)?;
-    Ok(is_both(alloc, &query, due, digits))
+// Whether a query is there, and has this text and this element.
+fn is_found(alloc: Global, query: Result<Box<Query>, Unread>, text: &[u8], digits: &str) -> bool {
+    match query {
+        Ok(query) => is_both(alloc, &query, text, digits),
+        Err(_) => false,
+    }
 }
 
 // The text, the printed text and the element are one query's.
 fn are_one(alloc: Global, text: &[u8], due: &[u8], digits: &str) -> bool {
-    is_true(parses(alloc, text, due, digits))
-        && is_true(parses(alloc, due, due, digits))
-        && is_true(decodes(alloc, due, digits))
+    is_found(alloc, parse(alloc, text), due, digits)
+        && is_found(alloc, parse(alloc, due), due, digits)
+        && is_found(alloc, inner_query(alloc, digits), due, digits)
 }
 
 fn is_query(alloc: Global, row: &str) -> Result<bool, Unread> {
     let (text, rest) = halves(row);
     let (printed, digits) = halves(rest);
-    let text = unescape(alloc, text)?;
-    let due = unescape(alloc, printed)?;
-    Ok(are_one(alloc, text.as_slice(), due.as_slice(), digits))
+    match (unescape(alloc, text), unescape(alloc, printed)) {
+        (Ok(text), Ok(due)) => Ok(are_one(alloc, text.as_slice(), due.as_slice(), digits)),
+        _ => Err(Unread),
+    }
 }
 
 #[test]
 fn texts_are_queries_and_queries_octets(rt: HostRuntime) -> Result<(), Fail> {
-    each_row(rt.alloc(), READ, &is_query)
+    each_row(rt.alloc(), READ, is_query)
 }
 
 // A text so many times, and then another one.
@@ -87,10 +94,14 @@ fn repeat_before(
 ) -> Result<Vec<u8>, AllocError> {
     let mut out = Vec::new(alloc);
     for _ in 0..count {
-        out.extend_from_slice(text)?;
+        if out.extend_from_slice(text).is_err() {
+            return Err(AllocError);
+        }
     }
-    out.extend_from_slice(last)?;
-    Ok(out)
+    match out.extend_from_slice(last) {
+        Ok(()) => Ok(out),
+        Err(error) => Err(error),
+    }
 }
 
 // So many times one text, and then so many times another.
@@ -101,38 +112,54 @@ fn repeat_both(
     more: usize,
     next: &[u8],
 ) -> Result<Vec<u8>, AllocError> {
-    let last = repeat_before(alloc, more, next, b"")?;
+    let Ok(last) = repeat_before(alloc, more, next, b"") else {
+        return Err(AllocError);
+    };
     repeat_before(alloc, count, text, last.as_slice())
 }
 
 // A query that comes back from its element.
 fn read_back(alloc: Global, query: &Query) -> Result<Box<Query>, Unread> {
-    let node = wrap_query(alloc, query)?;
-    unwrap_query(alloc, &node)
+    match wrap_query(alloc, query) {
+        Ok(node) => unwrap_query(alloc, &node),
+        Err(_) => Err(Unread),
+    }
 }
 
-fn has_text_of(alloc: Global, query: &Query, other: &Query) -> Result<bool, Unread> {
-    let text = query_text(alloc, other)?;
-    Ok(is_printed(alloc, query, text.as_slice()))
-}
-
-fn comes_back(alloc: Global, query: &Query) -> Result<bool, Unread> {
-    let again = read_back(alloc, query)?;
-    has_text_of(alloc, &again, query)
+// Whether a query is there, and has the text of another.
+fn has_text_of(alloc: Global, query: Result<Box<Query>, Unread>, other: &Query) -> bool {
+    match (query, query_text(alloc, other)) {
+        (Ok(query), Ok(text)) => is_printed(alloc, &query, text.as_slice()),
+        _ => false,
+    }
 }
 
 // Whether a text is read, and its query comes back from its element.
-fn is_read(alloc: Global, text: &[u8]) -> Result<bool, Unread> {
-    let query = parse(alloc, text)?;
-    comes_back(alloc, &query)
+fn is_read(alloc: Global, text: &[u8]) -> bool {
+    match parse(alloc, text) {
+        Ok(query) => has_text_of(alloc, read_back(alloc, &query), &query),
+        Err(_) => false,
+    }
+}
+
+// The same of a text that there was memory for.
+fn is_made_and_read(alloc: Global, text: Result<Vec<u8>, AllocError>) -> bool {
+    match text {
+        Ok(text) => is_read(alloc, text.as_slice()),
+        Err(_) => false,
+    }
 }
 
 #[test]
 fn operands_stand_on_32_levels(rt: HostRuntime) -> Result<(), Fail> {
-    let highest = repeat_both(rt.alloc(), 31, b"@and ", 32, b"x ")?;
-    assert!(rt; is_true(is_read(rt.alloc(), highest.as_slice())));
-    let longest = repeat_before(rt.alloc(), 31, b"@or x ", b"@attr 1=4 @set x")?;
-    assert!(rt; is_true(is_read(rt.alloc(), longest.as_slice())));
+    let alloc = rt.alloc();
+    assert!(rt; is_made_and_read(alloc, repeat_both(alloc, 31, b"@and ", 32, b"x ")));
+    assert!(rt;
+        is_made_and_read(
+            alloc,
+            repeat_before(alloc, 31, b"@or x ", b"@attr 1=4 @set x")
+        )
+    );
     Ok(())
 }
 
@@ -164,11 +191,13 @@ const LAST: &str = "\
 
 fn is_last(alloc: Global, row: &str) -> Result<bool, Unread> {
     let (last, due) = halves(row);
-    let text = repeat_before(alloc, 31, b"@or x ", last.as_bytes())?;
+    let Ok(text) = repeat_before(alloc, 31, b"@or x ", last.as_bytes()) else {
+        return Err(Unread);
+    };
     Ok(tells(refusal(alloc, text.as_slice()), due))
 }
 
 #[test]
 fn other_faults_on_the_33rd_level(rt: HostRuntime) -> Result<(), Fail> {
-    each_row(rt.alloc(), LAST, &is_last)
+    each_row(rt.alloc(), LAST, is_last)
 }

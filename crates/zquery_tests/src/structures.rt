@@ -1,46 +1,54 @@
 // Elements that are queries without a text, or no queries, worked out from Z39.50-2003, 4.1, and X.690.
-use crate::notation::{complex, has_no_text, other, proximity_of};
-use crate::plain::{box_value, is_query, query_copy, query_node, query_of};
-use crate::queries::{is_printed, unwrap_query};
+use crate::notation::{bib_1_query, complex, has_no_text, other, proximity_of};
+use crate::plain::{is_query, query_copy, query_node, query_of};
+use crate::queries::{inner_query, is_printed};
 use crate::rows::{KEPT, LONG, OTHERS};
 use bytes::Bytes;
 use std::alloc::{AllocError, Global};
 use std::process::Abort;
 use std::test::Fail;
-use zber::{Node, Oid, Tag};
+use zber::{Node, Tag};
 use zber_tests::rows::{each_row, element, encoding, is_true, pair, tells};
 use zber_tests::unread::{Unread, read};
 use zquery::{BuildError, Query, Rpn};
 
-fn is_written_as(alloc: Global, query: &Query, digits: &str) -> Result<bool, Unread> {
-    let node = read(query_node(alloc, query))?;
-    Ok(tells(encoding(alloc, &node), digits))
+fn is_written_as(alloc: Global, query: &Query, digits: &str) -> bool {
+    let Ok(node) = query_node(alloc, query) else {
+        return false;
+    };
+    tells(encoding(alloc, &node), digits)
 }
 
-fn is_copied_as(alloc: Global, query: &Query, digits: &str) -> Result<bool, Unread> {
-    let copy = query_copy(alloc, query)?;
+fn is_copied_as(alloc: Global, query: &Query, digits: &str) -> bool {
+    let Ok(copy) = query_copy(alloc, query) else {
+        return false;
+    };
     is_written_as(alloc, &copy, digits)
 }
 
 fn is_opaque(alloc: Global, query: &Query, digits: &str) -> bool {
-    is_true(is_written_as(alloc, query, digits))
-        && is_true(is_copied_as(alloc, query, digits))
+    is_written_as(alloc, query, digits)
+        && is_copied_as(alloc, query, digits)
         && is_true(has_no_text(alloc, query))
 }
 
 fn query(alloc: Global, digits: &str) -> Result<Box<Query>, Unread> {
-    let node = element(alloc, digits)?;
+    let Ok(node) = element(alloc, digits) else {
+        return Err(Unread);
+    };
     query_of(alloc, &node)
 }
 
 fn is_kept(alloc: Global, row: &str) -> Result<bool, Unread> {
-    let query = query(alloc, row)?;
+    let Ok(query) = query(alloc, row) else {
+        return Err(Unread);
+    };
     Ok(is_opaque(alloc, &query, row))
 }
 
 #[test]
 fn queries_without_a_text_are_written_back(rt: HostRuntime) -> Result<(), Fail> {
-    each_row(rt.alloc(), KEPT, &is_kept)
+    each_row(rt.alloc(), KEPT, is_kept)
 }
 
 // What stands before an operand, the operand, and what stands behind it, of queries in which 60 operators stand in one
@@ -59,44 +67,59 @@ a180a00abf6607bf2c009f2d0162 a00abf6607bf2c009f2d0161 bf2e02a3000000
 fn tower(alloc: Global, row: &str) -> Result<Node, Unread> {
     let (front, rest) = pair(row);
     let (operand, back) = pair(rest);
-    let fronts = front.repeat(alloc, 60)?;
-    let backs = back.repeat(alloc, 60)?;
-    let digits = format!(in alloc; "a18006072a8648ce130301{fronts}{operand}{backs}0000")?;
+    let Ok(fronts) = front.repeat(alloc, 60) else {
+        return Err(Unread);
+    };
+    let Ok(backs) = back.repeat(alloc, 60) else {
+        return Err(Unread);
+    };
+    let Ok(digits) = format!(in alloc; "a18006072a8648ce130301{fronts}{operand}{backs}0000") else {
+        return Err(Unread);
+    };
     element(alloc, digits.as_str())
 }
 
 // A call that went twice into one side of each operator would not come back.
 fn is_kept_high(alloc: Global, row: &str) -> Result<bool, Unread> {
-    let node = tower(alloc, row)?;
-    let query = query_of(alloc, &node)?;
-    let digits = encoding(alloc, &node)?;
+    let Ok(node) = tower(alloc, row) else {
+        return Err(Unread);
+    };
+    let Ok(query) = query_of(alloc, &node) else {
+        return Err(Unread);
+    };
+    let Ok(digits) = encoding(alloc, &node) else {
+        return Err(Unread);
+    };
     Ok(is_opaque(alloc, &query, digits.as_str()))
 }
 
 #[test]
 fn queries_of_60_operators_in_one_another_are_written_back(rt: HostRuntime) -> Result<(), Fail> {
-    each_row(rt.alloc(), TOWERS, &is_kept_high)
+    each_row(rt.alloc(), TOWERS, is_kept_high)
 }
 
 fn is_none(alloc: Global, row: &str) -> Result<bool, Unread> {
-    let node = element(alloc, row)?;
-    Ok(!is_query(alloc, &node)?)
+    let Ok(node) = element(alloc, row) else {
+        return Err(Unread);
+    };
+    Ok(matches!(is_query(alloc, &node), Ok(false)))
 }
 
 #[test]
 fn other_elements_are_no_queries(rt: HostRuntime) -> Result<(), Fail> {
-    each_row(rt.alloc(), OTHERS, &is_none)
+    each_row(rt.alloc(), OTHERS, is_none)
 }
 
-fn inner_query(alloc: Global, digits: &str) -> Result<Box<Query>, Unread> {
-    let node = element(alloc, digits)?;
-    unwrap_query(alloc, &node)
+fn is_text_of(alloc: Global, digits: &str, due: &[u8]) -> bool {
+    match inner_query(alloc, digits) {
+        Ok(query) => is_printed(alloc, &query, due),
+        Err(_) => false,
+    }
 }
 
 #[test]
 fn other_lengths_say_the_same(rt: HostRuntime) -> Result<(), Fail> {
-    let query = inner_query(rt.alloc(), LONG)?;
-    assert!(rt; is_printed(rt.alloc(), &query, b"@attr 1=4 \"dune\""));
+    assert!(rt; is_text_of(rt.alloc(), LONG, b"@attr 1=4 \"dune\""));
     Ok(())
 }
 
@@ -128,64 +151,89 @@ fn is_spelt(alloc: Global, query: &Query) -> Result<bool, Unread> {
     }
 }
 
-fn make_query(alloc: Global, attr_set: Oid, root: Rpn) -> Result<Box<Query>, AllocError> {
-    box_value(alloc, Query { attr_set, root })
-}
-
 // The mark where the query of a root has an element, and a dot where it has none.
 fn mark(alloc: Global, root: Rpn, mark: char) -> Result<char, Unread> {
-    let attr_set = Oid::from_arcs(alloc, &[1, 2, 840, 10003, 3, 1])?;
-    let query = make_query(alloc, attr_set, root)?;
-    Ok(if is_spelt(alloc, &query)? { mark } else { '.' })
+    let Ok(query) = bib_1_query(alloc, root) else {
+        return Err(Unread);
+    };
+    match is_spelt(alloc, &query) {
+        Ok(is) => Ok(if is { mark } else { '.' }),
+        Err(error) => Err(error),
+    }
 }
 
 fn term_mark(alloc: Global, node: &Node) -> Result<char, Unread> {
-    let node = node.copy(alloc)?;
+    let Ok(node) = node.copy(alloc) else {
+        return Err(Unread);
+    };
     mark(alloc, other(alloc, node), 't')
 }
 
 fn value_mark(alloc: Global, node: &Node) -> Result<char, Unread> {
-    let node = node.copy(alloc)?;
-    let root = complex(alloc, node)?;
+    let Ok(node) = node.copy(alloc) else {
+        return Err(Unread);
+    };
+    let Ok(root) = complex(alloc, node) else {
+        return Err(Unread);
+    };
     mark(alloc, root, 'c')
 }
 
 fn proximity_mark(alloc: Global, node: &Node) -> Result<char, Unread> {
-    let node = node.copy(alloc)?;
-    let root = proximity_of(alloc, node)?;
+    let Ok(node) = node.copy(alloc) else {
+        return Err(Unread);
+    };
+    let Ok(root) = proximity_of(alloc, node) else {
+        return Err(Unread);
+    };
     mark(alloc, root, 'p')
 }
 
-fn put(mark: Result<char, Unread>, out: &mut String) -> Result<(), Unread> {
-    Ok(out.push(mark?)?)
-}
-
-fn marks(alloc: Global, node: &Node, out: &mut String) -> Result<(), Unread> {
-    put(term_mark(alloc, node), out)?;
-    put(value_mark(alloc, node), out)?;
-    put(proximity_mark(alloc, node), out)
+// Three marks in a row.
+fn marks(alloc: Global, node: &Node) -> Result<String, Unread> {
+    let marks = (
+        term_mark(alloc, node),
+        value_mark(alloc, node),
+        proximity_mark(alloc, node),
+    );
+    match marks {
+        (Ok(term), Ok(value), Ok(proximity)) => read(format!(in alloc; "{term}{value}{proximity}")),
+        _ => Err(Unread),
+    }
 }
 
 fn primitive(alloc: Global, tag: Tag) -> Result<Node, AllocError> {
-    let octets = Bytes::copy_from_slice(alloc, b"x")?;
-    Ok(Node::prim(tag, octets))
+    match Bytes::copy_from_slice(alloc, b"x") {
+        Ok(octets) => Ok(Node::prim(tag, octets)),
+        Err(_) => Err(AllocError),
+    }
 }
 
-fn all_marks(alloc: Global, tag: Tag) -> Result<String, Unread> {
-    let mut out = String::new(alloc);
-    marks(alloc, &primitive(alloc, tag)?, &mut out)?;
-    out.push(' ')?;
-    marks(alloc, &Node::cons(tag, Vec::new(alloc)), &mut out)?;
-    Ok(out)
+fn primitive_marks(alloc: Global, tag: Tag) -> Result<String, Unread> {
+    match primitive(alloc, tag) {
+        Ok(node) => marks(alloc, &node),
+        Err(_) => Err(Unread),
+    }
+}
+
+fn constructed_marks(alloc: Global, tag: Tag) -> Result<String, Unread> {
+    marks(alloc, &Node::cons(tag, Vec::new(alloc)))
 }
 
 fn has_marks(alloc: Global, row: &str) -> Result<bool, Unread> {
     let (number, due) = pair(row);
-    let tag = Tag::context(number.parse::<u32>()?);
-    Ok(tells(all_marks(alloc, tag), due))
+    let (primitive, constructed) = pair(due);
+    let Ok(number) = number.parse::<u32>() else {
+        return Err(Unread);
+    };
+    let tag = Tag::context(number);
+    Ok(
+        tells(primitive_marks(alloc, tag), primitive)
+            && tells(constructed_marks(alloc, tag), constructed),
+    )
 }
 
 #[test]
 fn opaque_parts_have_the_tags_of_their_places(rt: HostRuntime) -> Result<(), Fail> {
-    each_row(rt.alloc(), OPAQUE, &has_marks)
+    each_row(rt.alloc(), OPAQUE, has_marks)
 }

@@ -4,7 +4,7 @@ pub mod FewEntries
 pub mod Histories
 pub mod LongestRuns
 pub mod Phrases
-pub mod WhatFits
+pub mod LargestResponses
 pub mod ExactPlaces
 pub mod NamedSets
 pub mod KeptSets

@@ -12,6 +12,7 @@ use Rattle.ztarget.specs.declared.index.Place.{Place}
 use Rattle.ztarget.specs.Matching.{is_searched_field}
 use Rattle.ztarget.specs.Words.{words}
 
+-- where a word is: the numbers of the entry, of the field in the entry, and of the word in the field, each from 0
 abbrev pub place : ℕ → ℕ → ℕ → Place
 place entry field word = record { entry = entry; field = field; word = word }
 

@@ -13,6 +13,7 @@ use Rattle.ztarget.specs.Searching.{Found, found, places_from}
 use Rattle.ztarget.specs.Showing.{shown_record}
 use Rattle.ztarget.specs.Standing.{NamedSet}
 
+-- an entry by two numbers from 0: that of its database among the target's, and its own in that database
 abbrev pub hit : ℕ → ℕ → Hit
 hit database entry = record { database = database; entry = entry }
 
@@ -29,6 +30,7 @@ entry_at databases h = entry_in (slice_get databases h.database) h.entry
 abbrev pub IsHit : List Database → Hit → Type 0
 IsHit databases h = IsSome (entry_at databases h)
 
+-- there is an entry at each hit
 abbrev pub AreHits : List Database → List Hit → Type 0
 AreHits databases hits = AllByRecursion (IsHit databases) hits
 
@@ -40,6 +42,7 @@ AreHitSets databases sets = All (AreHits databases) (values_of sets)
 abbrev pub no_entry : Found
 no_entry = record { database = []; syntax = []; octets = [] }
 
+-- the entry at a hit, as a result set has it; `no_entry` if there is none
 abbrev pub found_at : List Database → Hit → Found
 found_at databases h = unwrap_or (entry_at databases h) no_entry
 
@@ -56,6 +59,7 @@ pub record AreAt (databases : List Database) (hits : List Hit) (founds : List Fo
   pub stand : AreHits databases hits
   pub found : all_found_at databases hits ≡ founds
 
+-- a result set, from its name and its hits
 abbrev pub named_set : List Database → List ℕ × List Hit → NamedSet
 named_set databases e = record { name = e.0; found = all_found_at databases e.1 }
 
@@ -67,6 +71,7 @@ sets_of databases sets = map (named_set databases) sets
 abbrev pub IsNumberedDatabase : List Database → Numbered → Type 0
 IsNumberedDatabase databases n = slice_get databases n.number ≡ Some n.database.now
 
+-- the databases, without their numbers
 abbrev pub databases_of : List Numbered → List Database
 databases_of numbered = map (λ n. n.database.now) numbered
 
@@ -74,5 +79,6 @@ databases_of numbered = map (λ n. n.database.now) numbered
 abbrev pub hits_in : (Entry → Bool) → Numbered → List Hit
 hits_in p n = map (hit n.number) (places_from p 0 n.database.now.entries)
 
+-- the hits of the entries that pass, database by database
 abbrev pub hits_by : (Entry → Bool) → List Numbered → List Hit
 hits_by p numbered = flat_map (hits_in p) numbered

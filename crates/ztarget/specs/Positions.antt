@@ -34,6 +34,6 @@ are_in_set count ranges =
 abbrev pub at_positions : {X : Type 0} → List X → List ℕ → List X
 at_positions found asked = flat_map (λ p. take 1 (drop (p - 1) found)) asked
 
--- the last of the first k positions, or 0 if there is none
+-- the last of the first k positions, or 0 if there are not so many (k is 1 at least)
 abbrev pub last_position : List ℕ → ℕ → ℕ
 last_position asked k = slice_index_or asked (k - 1) 0

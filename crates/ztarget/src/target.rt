@@ -341,7 +341,8 @@ impl Target {
     /// - To a Close: a Close (3.2.11.1).
     ///
     /// So a request that fails with a diagnostic is taken, not refused. Each pending reply has an element, with at most
-    /// 64 constructed elements within one another. So only its length or want of memory can prevent its encoding.
+    /// 64 constructed elements within one another. Only its length, or that no memory is found, can prevent its
+    /// encoding.
     ///
     /// Refusals, each of which leaves the target unchanged:
     /// - `NotRequest`: the APDU is a response.

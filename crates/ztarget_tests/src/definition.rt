@@ -5,7 +5,6 @@ use std::alloc::{AllocError, Global};
 use std::process::Abort;
 use std::test::Fail;
 use zber_tests::dice::Dice;
-use zber_tests::rows::is_true;
 use zber_tests::unread::Unread;
 use zquery::{Attr, AttrValue, Query, Rpn, TermValue};
 use ztarget::{Database, Entry, Target};
@@ -13,16 +12,22 @@ use ztarget::{Database, Entry, Target};
 // The words of octets, in lower case, with one space before each and one behind the last.
 fn words(alloc: Global, octets: &[u8]) -> Result<Vec<u8>, AllocError> {
     let mut words = Vec::new(alloc);
-    words.push(b' ')?;
+    if words.push(b' ').is_err() {
+        return Err(AllocError);
+    }
     for octet in octets {
         if octet.is_ascii_alphanumeric() || *octet >= 0x80 {
-            words.push(octet.to_ascii_lowercase())?;
+            if words.push(octet.to_ascii_lowercase()).is_err() {
+                return Err(AllocError);
+            }
         } else if words.last() != Some(&b' ') {
-            words.push(b' ')?;
+            if words.push(b' ').is_err() {
+                return Err(AllocError);
+            }
         }
     }
-    if words.last() != Some(&b' ') {
-        words.push(b' ')?;
+    if words.last() != Some(&b' ') && words.push(b' ').is_err() {
+        return Err(AllocError);
     }
     Ok(words)
 }
@@ -58,15 +63,22 @@ fn has_words(
 ) -> Result<bool, AllocError> {
     for field in entry.fields.as_slice() {
         let is_used = used == None || used == Some(1016) || used == Some(field.attr);
-        if is_used && contains(words(alloc, field.text.as_slice())?.as_slice(), words_due) {
-            return Ok(true);
+        if is_used {
+            let Ok(words) = words(alloc, field.text.as_slice()) else {
+                return Err(AllocError);
+            };
+            if contains(words.as_slice(), words_due) {
+                return Ok(true);
+            }
         }
     }
     Ok(false)
 }
 
 fn has_term(alloc: Global, entry: &Entry, attrs: &[Attr], text: &[u8]) -> Result<bool, AllocError> {
-    let mut due = words(alloc, text)?;
+    let Ok(mut due) = words(alloc, text) else {
+        return Err(AllocError);
+    };
     if due.len() == 1 {
         return Ok(false);
     }
@@ -76,33 +88,31 @@ fn has_term(alloc: Global, entry: &Entry, attrs: &[Attr], text: &[u8]) -> Result
     has_words(alloc, entry, last(attrs, 1), due.as_slice())
 }
 
+fn negated(answer: Result<bool, AllocError>) -> Result<bool, AllocError> {
+    match answer {
+        Ok(is) => Ok(!is),
+        Err(error) => Err(error),
+    }
+}
+
 fn is_match(alloc: Global, entry: &Entry, query: &Rpn) -> Result<bool, AllocError> {
     match query {
         Rpn::Term {
             attrs,
             term: TermValue::General(text),
         } => has_term(alloc, entry, attrs.as_slice(), text.as_slice()),
-        Rpn::And(left, right) => {
-            if is_match(alloc, entry, left)? {
-                is_match(alloc, entry, right)
-            } else {
-                Ok(false)
-            }
-        }
-        Rpn::Or(left, right) => {
-            if is_match(alloc, entry, left)? {
-                Ok(true)
-            } else {
-                is_match(alloc, entry, right)
-            }
-        }
-        Rpn::Not(left, right) => {
-            if is_match(alloc, entry, left)? {
-                Ok(!is_match(alloc, entry, right)?)
-            } else {
-                Ok(false)
-            }
-        }
+        Rpn::And(left, right) => match is_match(alloc, entry, left) {
+            Ok(true) => is_match(alloc, entry, right),
+            other => other,
+        },
+        Rpn::Or(left, right) => match is_match(alloc, entry, left) {
+            Ok(false) => is_match(alloc, entry, right),
+            other => other,
+        },
+        Rpn::Not(left, right) => match is_match(alloc, entry, left) {
+            Ok(true) => negated(is_match(alloc, entry, right)),
+            other => other,
+        },
         _ => Ok(false),
     }
 }
@@ -117,8 +127,11 @@ fn databases_named<'a>(
     for name in named.split_whitespace() {
         for database in databases {
             let is_named = database.name.as_slice() == name.as_bytes();
-            if is_named && !found.iter().any(|other| other.name == database.name) {
-                found.push(*database)?;
+            if is_named
+                && !found.iter().any(|other| other.name == database.name)
+                && found.push(*database).is_err()
+            {
+                return Err(AllocError);
             }
         }
     }
@@ -130,8 +143,11 @@ fn places(alloc: Global, databases: &[&Database], query: &Rpn) -> Result<Vec<u32
     let mut place = 0u32;
     for database in databases {
         for entry in database.entries.as_slice() {
-            if is_match(alloc, entry, query)? {
-                places.push(place)?;
+            let Ok(is) = is_match(alloc, entry, query) else {
+                return Err(AllocError);
+            };
+            if is && places.push(place).is_err() {
+                return Err(AllocError);
             }
             place = place.saturating_add(1);
         }
@@ -145,8 +161,11 @@ const WORDS: [&str; 9] = ["a", "A", "ab", "aB", "ba", "b1", "%e9", "%e9a", "-"];
 fn text(alloc: Global, dice: &mut Dice, most: u64) -> Result<String, AllocError> {
     let mut text = String::new(alloc);
     for _ in 0..dice.number_below(most.saturating_add(1)) {
-        text.push_str(dice.one(&WORDS))?;
-        text.push_str(dice.one(&[" ", "-", ", ", ""]))?;
+        if text.push_str(dice.one(&WORDS)).is_err()
+            || text.push_str(dice.one(&[" ", "-", ", ", ""])).is_err()
+        {
+            return Err(AllocError);
+        }
     }
     Ok(text)
 }
@@ -155,13 +174,21 @@ fn text(alloc: Global, dice: &mut Dice, most: u64) -> Result<String, AllocError>
 fn rows(alloc: Global, dice: &mut Dice) -> Result<String, AllocError> {
     let mut rows = String::new(alloc);
     for _ in 0..dice.number_below(6) {
-        rows.push_str("r")?;
+        if rows.push_str("r").is_err() {
+            return Err(AllocError);
+        }
         for _ in 0..dice.number_below(3).saturating_add(1) {
             let used = dice.one(&["4", "1003", "1016", "99"]);
-            let text = text(alloc, dice, 6)?;
-            rows.push_str(format!(in alloc; " | {used} {text}")?.as_str())?;
+            let Ok(text) = text(alloc, dice, 6) else {
+                return Err(AllocError);
+            };
+            if write!(rows, " | {used} {text}").is_err() {
+                return Err(AllocError);
+            }
         }
-        rows.push('\n')?;
+        if rows.push('\n').is_err() {
+            return Err(AllocError);
+        }
     }
     Ok(rows)
 }
@@ -169,21 +196,31 @@ fn rows(alloc: Global, dice: &mut Dice) -> Result<String, AllocError> {
 fn operand(alloc: Global, dice: &mut Dice) -> Result<String, AllocError> {
     let used = dice.one(&["", "", "@attr 1=4 ", "@attr 1=1003 ", "@attr 1=1016 "]);
     let truncated = dice.one(&["", "@attr 5=1 ", "@attr 5=100 "]);
-    let text = text(alloc, dice, 3)?;
+    let Ok(text) = text(alloc, dice, 3) else {
+        return Err(AllocError);
+    };
     format!(in alloc; "{used}{truncated}\"{text}\"")
 }
 
 // A query of so many operators.
 fn query(alloc: Global, dice: &mut Dice, operators: u64) -> Result<String, AllocError> {
-    let mut query = operand(alloc, dice)?;
+    let Ok(mut query) = operand(alloc, dice) else {
+        return Err(AllocError);
+    };
     for _ in 0..operators {
         let operator = dice.one(&["@and", "@or", "@not"]);
-        let other = operand(alloc, dice)?;
-        query = if dice.number_below(2) == 0 {
-            format!(in alloc; "{operator} {query} {other}")?
-        } else {
-            format!(in alloc; "{operator} {other} {query}")?
+        let Ok(other) = operand(alloc, dice) else {
+            return Err(AllocError);
         };
+        let longer = if dice.number_below(2) == 0 {
+            format!(in alloc; "{operator} {query} {other}")
+        } else {
+            format!(in alloc; "{operator} {other} {query}")
+        };
+        let Ok(longer) = longer else {
+            return Err(AllocError);
+        };
+        query = longer;
     }
     Ok(query)
 }
@@ -194,7 +231,9 @@ fn found_in(
     query: &Query,
     named: &str,
 ) -> Result<Vec<u32>, Unread> {
-    let names = names(alloc, named)?;
+    let Ok(names) = names(alloc, named) else {
+        return Err(Unread);
+    };
     places_found(target, names.as_slice(), query)
 }
 
@@ -204,7 +243,9 @@ fn places_in(
     query: &Query,
     named_row: &str,
 ) -> Result<Vec<u32>, AllocError> {
-    let named = databases_named(alloc, databases, named_row)?;
+    let Ok(named) = databases_named(alloc, databases, named_row) else {
+        return Err(AllocError);
+    };
     places(alloc, named.as_slice(), &query.root)
 }
 
@@ -221,10 +262,14 @@ fn is_found(
     databases: &[&Database],
     named: &str,
     text: &str,
-) -> Result<bool, Unread> {
-    let query = query_of_row(alloc, text)?;
-    let due = places_in(alloc, databases, &query, named)?;
-    Ok(is_same(found_in(alloc, target, &query, named), due.as_slice()))
+) -> bool {
+    let Ok(query) = query_of_row(alloc, text) else {
+        return false;
+    };
+    let Ok(due) = places_in(alloc, databases, &query, named) else {
+        return false;
+    };
+    is_same(found_in(alloc, target, &query, named), due.as_slice())
 }
 
 // Whether a search of no kind in particular finds what the definition has.
@@ -234,15 +279,17 @@ fn is_any_found(
     target: &Target,
     databases: &[&Database],
     operators: u64,
-) -> Result<bool, Unread> {
+) -> bool {
     let named = dice.one(&["a", "b", "a b", "b a", "b a b", "a a", "b b a a"]);
-    let text = query(alloc, dice, operators)?;
+    let Ok(text) = query(alloc, dice, operators) else {
+        return false;
+    };
     is_found(alloc, target, databases, named, text.as_str())
 }
 
 fn are_all_found(alloc: Global, dice: &mut Dice, target: &Target, databases: &[&Database]) -> bool {
     for operators in [0, 0, 1, 2, 3, 7] {
-        if !is_true(is_any_found(alloc, dice, target, databases, operators)) {
+        if !is_any_found(alloc, dice, target, databases, operators) {
             return false;
         }
     }
@@ -255,29 +302,39 @@ fn are_found_in(
     target: &Target,
     first: &str,
     second: &str,
-) -> Result<bool, Unread> {
-    let first = database(alloc, "a", first)?;
-    let second = database(alloc, "b", second)?;
-    Ok(are_all_found(alloc, dice, target, &[&first, &second]))
+) -> bool {
+    let Ok(first) = database(alloc, "a", first) else {
+        return false;
+    };
+    let Ok(second) = database(alloc, "b", second) else {
+        return false;
+    };
+    are_all_found(alloc, dice, target, &[&first, &second])
 }
 
 // Whether searches of these two databases find what the definition has.
-fn are_found(alloc: Global, dice: &mut Dice, first: &str, second: &str) -> Result<bool, Unread> {
-    let target = target_of_rows(alloc, first, second)?;
+fn are_found(alloc: Global, dice: &mut Dice, first: &str, second: &str) -> bool {
+    let Ok(target) = target_of_rows(alloc, first, second) else {
+        return false;
+    };
     are_found_in(alloc, dice, &target, first, second)
 }
 
-fn is_round(alloc: Global, seed: u64) -> Result<bool, Unread> {
+fn is_round(alloc: Global, seed: u64) -> bool {
     let mut dice = Dice::new(seed);
-    let first = rows(alloc, &mut dice)?;
-    let second = rows(alloc, &mut dice)?;
+    let Ok(first) = rows(alloc, &mut dice) else {
+        return false;
+    };
+    let Ok(second) = rows(alloc, &mut dice) else {
+        return false;
+    };
     are_found(alloc, &mut dice, first.as_str(), second.as_str())
 }
 
 #[test]
 fn searches_find_what_the_definition_has(rt: HostRuntime) -> Result<(), Fail> {
     for seed in 0..500 {
-        assert!(rt; is_true(is_round(rt.alloc(), seed)), "{seed}");
+        assert!(rt; is_round(rt.alloc(), seed), "{seed}");
     }
     Ok(())
 }

@@ -7,7 +7,7 @@ use std::test::Fail;
 use zapdu_tests::boxes::{box_value, parse};
 use zber::{Oid, Seq};
 use zber_tests::rows::{each_row, halves, split_row, unescape};
-use zber_tests::unread::Unread;
+use zber_tests::unread::{Unread, read};
 use zquery::{Attr, AttrValue, Query, Rpn, TermValue};
 use ztarget::{Target, TargetSettings};
 
@@ -130,55 +130,80 @@ pub(crate) fn target_of_rows(
     first: &str,
     second: &str,
 ) -> Result<Box<Target>, Unread> {
-    let first = database(alloc, "a", first)?;
-    let second = database(alloc, "b", second)?;
-    target_of(alloc, first, second, SETTINGS)
+    match (database(alloc, "a", first), database(alloc, "b", second)) {
+        (Ok(first), Ok(second)) => target_of(alloc, first, second, SETTINGS),
+        _ => Err(Unread),
+    }
 }
 
 pub(crate) fn query(alloc: Global, row: &str) -> Result<Box<Query>, Unread> {
-    let text = unescape(alloc, row)?;
+    let Ok(text) = unescape(alloc, row) else {
+        return Err(Unread);
+    };
     parse(alloc, text.as_slice())
 }
 
 pub(crate) fn names(alloc: Global, row: &str) -> Result<Vec<Bytes>, Unread> {
     let mut names = Vec::new(alloc);
     for name in row.split_whitespace() {
-        names.push(Bytes::copy_from_slice(alloc, name.as_bytes())?)?;
+        let Ok(name) = Bytes::copy_from_slice(alloc, name.as_bytes()) else {
+            return Err(Unread);
+        };
+        if names.push(name).is_err() {
+            return Err(Unread);
+        }
     }
     Ok(names)
 }
 
 // How many entries of the database `a` are matched.
 fn count(alloc: Global, target: &Target, query: &Query) -> Result<usize, Unread> {
-    let names = names(alloc, "a")?;
-    let places = places_found(target, names.as_slice(), query)?;
+    let Ok(names) = names(alloc, "a") else {
+        return Err(Unread);
+    };
+    let Ok(places) = places_found(target, names.as_slice(), query) else {
+        return Err(Unread);
+    };
     Ok(places.len())
 }
 
 // How many entries of rows a text finds.
 fn found_of(alloc: Global, rows: &str, text: &str) -> Result<usize, Unread> {
-    let query = query(alloc, text)?;
-    let target = target_of_rows(alloc, rows, "")?;
+    let Ok(query) = query(alloc, text) else {
+        return Err(Unread);
+    };
+    let Ok(target) = target_of_rows(alloc, rows, "") else {
+        return Err(Unread);
+    };
     count(alloc, &target, &query)
 }
 
 fn is_matched(alloc: Global, row: &str) -> Result<bool, Unread> {
     let (row, due) = halves(row);
     let (text, fields) = split_row(row, " | ");
-    let rows = format!(in alloc; "r | {fields}")?;
-    let count = found_of(alloc, rows.as_str(), text)?;
+    let Ok(rows) = format!(in alloc; "r | {fields}") else {
+        return Err(Unread);
+    };
+    let Ok(count) = found_of(alloc, rows.as_str(), text) else {
+        return Err(Unread);
+    };
     Ok((if count == 1 { "true" } else { "false" }) == due)
 }
 
 #[test]
 fn words_are_matched_as_told(rt: HostRuntime) -> Result<(), Fail> {
-    each_row(rt.alloc(), MATCHED, &is_matched)
+    each_row(rt.alloc(), MATCHED, is_matched)
 }
 
 fn numbers(alloc: Global, row: &str) -> Result<Vec<u32>, Unread> {
     let mut numbers = Vec::new(alloc);
     for number in row.split_whitespace() {
-        numbers.push(number.parse::<u32>()?)?;
+        let Ok(number) = number.parse::<u32>() else {
+            return Err(Unread);
+        };
+        if numbers.push(number).is_err() {
+            return Err(Unread);
+        }
     }
     Ok(numbers)
 }
@@ -189,35 +214,49 @@ fn places_by_names(
     query: &Query,
     named: &str,
 ) -> Result<Vec<u32>, Unread> {
-    let names = names(alloc, named)?;
+    let Ok(names) = names(alloc, named) else {
+        return Err(Unread);
+    };
     places_found(target, names.as_slice(), query)
 }
 
 fn places_of(alloc: Global, text: &str, named: &str) -> Result<Vec<u32>, Unread> {
-    let query = query(alloc, text)?;
+    let Ok(query) = query(alloc, text) else {
+        return Err(Unread);
+    };
     let second = "r | 4 one dune\nr | 4 dune\nr | 4 dune";
-    let target = target_of_rows(alloc, "r | 4 one\nr | 4 two", second)?;
+    let Ok(target) = target_of_rows(alloc, "r | 4 one\nr | 4 two", second) else {
+        return Err(Unread);
+    };
     places_by_names(alloc, &target, &query, named)
 }
 
 fn are_placed(alloc: Global, row: &str) -> Result<bool, Unread> {
     let (row, due) = halves(row);
     let (text, named) = split_row(row, " | ");
-    let told = numbers(alloc, due)?;
-    let places = places_of(alloc, text, named)?;
+    let Ok(told) = numbers(alloc, due) else {
+        return Err(Unread);
+    };
+    let Ok(places) = places_of(alloc, text, named) else {
+        return Err(Unread);
+    };
     Ok(places.as_slice() == told.as_slice())
 }
 
 #[test]
 fn places_are_counted_through_the_databases_named(rt: HostRuntime) -> Result<(), Fail> {
-    each_row(rt.alloc(), PLACED, &are_placed)
+    each_row(rt.alloc(), PLACED, are_placed)
 }
 
 // `TYPE=VALUE`
 fn attribute(part: &str) -> Result<Attr, Unread> {
     let (kind, value) = split_row(part, "=");
-    let kind = kind.parse::<i64>()?;
-    let number = value.parse::<i64>()?;
+    let Ok(kind) = kind.parse::<i64>() else {
+        return Err(Unread);
+    };
+    let Ok(number) = value.parse::<i64>() else {
+        return Err(Unread);
+    };
     Ok(Attr {
         attr_set: None,
         kind,
@@ -229,19 +268,30 @@ fn attribute(part: &str) -> Result<Attr, Unread> {
 fn attributes(alloc: Global, row: &str) -> Result<Seq<Attr>, Unread> {
     let mut attrs = Vec::new(alloc);
     for part in row.split_whitespace() {
-        attrs.push(attribute(part)?)?;
+        let Ok(attr) = attribute(part) else {
+            return Err(Unread);
+        };
+        if attrs.push(attr).is_err() {
+            return Err(Unread);
+        }
     }
     Ok(Seq::from_vec(attrs))
 }
 
 // The term of one word with these attributes.
 fn query_of_word(alloc: Global, attributes_row: &str, word: &str) -> Result<Box<Query>, Unread> {
-    let attr_set = Oid::from_arcs(alloc, &[1, 2, 840, 10003, 3, 1])?;
-    let octets = Bytes::copy_from_slice(alloc, word.as_bytes())?;
-    let attrs = attributes(alloc, attributes_row)?;
+    let Ok(attr_set) = Oid::from_arcs(alloc, &[1, 2, 840, 10003, 3, 1]) else {
+        return Err(Unread);
+    };
+    let Ok(octets) = Bytes::copy_from_slice(alloc, word.as_bytes()) else {
+        return Err(Unread);
+    };
+    let Ok(attrs) = attributes(alloc, attributes_row) else {
+        return Err(Unread);
+    };
     let term = TermValue::General(octets);
     let root = Rpn::Term { attrs, term };
-    Ok(box_value(alloc, Query { attr_set, root })?)
+    read(box_value(alloc, Query { attr_set, root }))
 }
 
 // Words, their attributes, and whether `dune` by `herbert` is matched.
@@ -259,21 +309,29 @@ dun | 5=100 1=4 5=1 => true
 fn is_repeated(alloc: Global, row: &str) -> Result<bool, Unread> {
     let (row, due) = halves(row);
     let (word, attributes) = split_row(row, " | ");
-    let query = query_of_word(alloc, attributes, word)?;
-    let target = target_of_rows(alloc, "r | 4 dune | 1003 herbert", "")?;
-    let count = count(alloc, &target, &query)?;
+    let Ok(query) = query_of_word(alloc, attributes, word) else {
+        return Err(Unread);
+    };
+    let Ok(target) = target_of_rows(alloc, "r | 4 dune | 1003 herbert", "") else {
+        return Err(Unread);
+    };
+    let Ok(count) = count(alloc, &target, &query) else {
+        return Err(Unread);
+    };
     Ok((if count == 1 { "true" } else { "false" }) == due)
 }
 
 #[test]
 fn the_last_of_several_attributes_counts(rt: HostRuntime) -> Result<(), Fail> {
-    each_row(rt.alloc(), REPEATED, &is_repeated)
+    each_row(rt.alloc(), REPEATED, is_repeated)
 }
 
 // How many of so many entries are found.
 fn found_among(alloc: Global, entries: usize, text: &str) -> Result<usize, Unread> {
     let row = "r | 4 the quick brown fox jumps over the lazy dog | 1003 dune\n";
-    let rows = row.repeat(alloc, entries)?;
+    let Ok(rows) = row.repeat(alloc, entries) else {
+        return Err(Unread);
+    };
     found_of(alloc, rows.as_str(), text)
 }
 

@@ -27,22 +27,33 @@ c3 | 4 dune
 const FOURTH: &str = "thirty octets of one record  . | 4 Dune messiah | 1003 Herbert";
 
 fn text(alloc: Global, text: &str) -> Result<Bytes, Unread> {
-    let octets = unescape(alloc, text)?;
-    Ok(Bytes::from_vec(octets)?)
+    let Ok(octets) = unescape(alloc, text) else {
+        return Err(Unread);
+    };
+    read(Bytes::from_vec(octets))
 }
 
 // `USE TEXT`
 fn field(alloc: Global, row: &str) -> Result<Field, Unread> {
     let (attr, value) = pair(row);
-    let attr = attr.parse::<i64>()?;
-    let text = text(alloc, value)?;
+    let Ok(attr) = attr.parse::<i64>() else {
+        return Err(Unread);
+    };
+    let Ok(text) = text(alloc, value) else {
+        return Err(Unread);
+    };
     Ok(Field { attr, text })
 }
 
 fn fields(alloc: Global, row: &str) -> Result<Seq<Field>, Unread> {
     let mut fields = Vec::new(alloc);
     for part in row.split(" | ") {
-        fields.push(field(alloc, part)?)?;
+        let Ok(field) = field(alloc, part) else {
+            return Err(Unread);
+        };
+        if fields.push(field).is_err() {
+            return Err(Unread);
+        }
     }
     Ok(Seq::from_vec(fields))
 }
@@ -50,10 +61,17 @@ fn fields(alloc: Global, row: &str) -> Result<Seq<Field>, Unread> {
 // `OCTETS | FIELD | FIELD ..`
 fn entry(alloc: Global, row: &str) -> Result<Entry, Unread> {
     let (octets, others) = split_row(row, " | ");
+    let (Ok(syntax), Ok(octets), Ok(fields)) = (
+        Oid::from_arcs(alloc, &SYNTAX),
+        text(alloc, octets),
+        fields(alloc, others),
+    ) else {
+        return Err(Unread);
+    };
     Ok(Entry {
-        syntax: Oid::from_arcs(alloc, &SYNTAX)?,
-        octets: text(alloc, octets)?,
-        fields: fields(alloc, others)?,
+        syntax,
+        octets,
+        fields,
     })
 }
 
@@ -61,11 +79,18 @@ fn entry(alloc: Global, row: &str) -> Result<Entry, Unread> {
 pub(crate) fn database(alloc: Global, name: &str, rows: &str) -> Result<Box<Database>, Unread> {
     let mut entries = Vec::new(alloc);
     for row in rows.lines() {
-        entries.push(entry(alloc, row)?)?;
+        let Ok(entry) = entry(alloc, row) else {
+            return Err(Unread);
+        };
+        if entries.push(entry).is_err() {
+            return Err(Unread);
+        }
     }
-    let name = text(alloc, name)?;
+    let Ok(name) = text(alloc, name) else {
+        return Err(Unread);
+    };
     let entries = Seq::from_vec(entries);
-    Ok(box_value(alloc, Database { name, entries })?)
+    read(box_value(alloc, Database { name, entries }))
 }
 
 // A target of these two databases, which are small.
@@ -78,9 +103,13 @@ pub(crate) fn target_of(
     if first.entries.len() > 1_000_000 || second.entries.len() > 1_000_000 {
         return Err(Unread);
     }
-    let databases = vec![in alloc; Box::into_inner(first), Box::into_inner(second)]?;
-    let target = Target::new(alloc, databases, settings)?;
-    Ok(box_value(alloc, target)?)
+    let Ok(databases) = vec![in alloc; Box::into_inner(first), Box::into_inner(second)] else {
+        return Err(Unread);
+    };
+    match Target::new(alloc, databases, settings) {
+        Ok(target) => read(box_value(alloc, target)),
+        Err(_) => Err(Unread),
+    }
 }
 
 // `LIBRARY SIZE OPTIONS`: of the options `c` offers concurrent operations, `n` named result sets, and `r` refuses each
@@ -88,16 +117,20 @@ pub(crate) fn target_of(
 fn target(alloc: Global, row: &str) -> Result<Box<Target>, Unread> {
     let (library, others) = pair(row);
     let (size, options) = pair(others);
+    let Ok(size) = size.parse::<i64>() else {
+        return Err(Unread);
+    };
     let settings = TargetSettings {
-        size: size.parse::<i64>()?,
+        size,
         concurrent: options.contains('c'),
         named: options.contains('n'),
         refuse: options.contains('r'),
     };
     let rows = if library == "one" { ONE } else { THREE };
-    let first = database(alloc, "d", rows)?;
-    let second = database(alloc, "e", FOURTH)?;
-    target_of(alloc, first, second, settings)
+    match (database(alloc, "d", rows), database(alloc, "e", FOURTH)) {
+        (Ok(first), Ok(second)) => target_of(alloc, first, second, settings),
+        _ => Err(Unread),
+    }
 }
 
 pub(crate) fn matches(
@@ -132,29 +165,37 @@ fn release(alloc: Global, target: &mut Target, k: usize) -> Result<Box<Option<Ap
 
 // The octets of an APDU.
 fn apdu_digits(alloc: Global, apdu: &Apdu) -> Result<String, Unread> {
-    let node = read(apdu_node(alloc, apdu))?;
-    Ok(encoding(alloc, &node)?)
+    let Ok(node) = apdu_node(alloc, apdu) else {
+        return Err(Unread);
+    };
+    read(encoding(alloc, &node))
 }
 
 fn release_reply(alloc: Global, target: &mut Target, k: usize) -> Result<String, Unread> {
-    let reply = release(alloc, target, k)?;
+    let Ok(reply) = release(alloc, target, k) else {
+        return Err(Unread);
+    };
     match reply.as_ref() {
         Some(apdu) => apdu_digits(alloc, apdu),
-        None => Ok(String::from_str(alloc, "none")?),
+        None => read(String::from_str(alloc, "none")),
     }
 }
 
 fn receive_request(alloc: Global, target: &mut Target, digits: &str) -> Result<String, Unread> {
-    let request = apdu(alloc, digits)?;
+    let Ok(request) = apdu(alloc, digits) else {
+        return Err(Unread);
+    };
     match receive(target, &request) {
-        Ok(()) => Ok(String::from_str(alloc, "taken")?),
-        Err(reason) => Ok(format!(in alloc; "{reason:?}")?),
+        Ok(()) => read(String::from_str(alloc, "taken")),
+        Err(reason) => read(format!(in alloc; "{reason:?}")),
     }
 }
 
 // The reply to a request that is the only one pending.
 fn reply_to(alloc: Global, target: &mut Target, digits: &str) -> Result<String, Unread> {
-    let answer = receive_request(alloc, target, digits)?;
+    let Ok(answer) = receive_request(alloc, target, digits) else {
+        return Err(Unread);
+    };
     if answer.as_str() == "taken" && pending(target) == 1 {
         release_reply(alloc, target, 0)
     } else {
@@ -167,8 +208,11 @@ fn answer(alloc: Global, target: &mut Target, step: &str) -> Result<String, Unre
     match word {
         "ask" => reply_to(alloc, target, row),
         "receive" => receive_request(alloc, target, row),
-        "release" => release_reply(alloc, target, row.parse::<usize>()?),
-        "pending" => Ok(format!(in alloc; "{}", pending(target))?),
+        "release" => match row.parse::<usize>() {
+            Ok(place) => release_reply(alloc, target, place),
+            Err(_) => Err(Unread),
+        },
+        "pending" => read(format!(in alloc; "{}", pending(target))),
         _ => Err(Unread),
     }
 }

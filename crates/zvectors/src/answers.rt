@@ -89,8 +89,10 @@ fn facts_told(alloc: Global, origin: &mut Origin, reply: &Apdu) -> Result<Vec<Fa
 fn text(alloc: Global, facts: &[Fact]) -> Result<String, Unread> {
     let mut line = Line::new(alloc);
     put_facts(alloc, facts, &mut line);
-    let octets = line.whole()?;
-    Ok(String::from_utf8_lossy(alloc, octets.as_slice())?)
+    let Ok(octets) = line.whole() else {
+        return Err(Unread);
+    };
+    read(String::from_utf8_lossy(alloc, octets.as_slice()))
 }
 
 /// The facts of the reply that these digits spell, with a space before each.
@@ -99,8 +101,12 @@ pub(crate) fn facts_row(
     origin: &mut Origin,
     digits: &str,
 ) -> Result<String, Unread> {
-    let reply = apdu(alloc, digits)?;
-    let facts = facts_told(alloc, origin, &reply)?;
+    let Ok(reply) = apdu(alloc, digits) else {
+        return Err(Unread);
+    };
+    let Ok(facts) = facts_told(alloc, origin, &reply) else {
+        return Err(Unread);
+    };
     text(alloc, facts.as_slice())
 }
 

@@ -4,7 +4,7 @@ ghost use Rattle.std.specs.Prelude.{◌<◌, length};
 use crate::talks::{Case, has, new_meta, reads_of, sink_of, source_of, whole, writes_of};
 use std::alloc::Global;
 use std::test::Fail;
-use zber_tests::rows::{is_true, octets};
+use zber_tests::rows::octets;
 use zber_tests::unread::Unread;
 use zoom::{Meta, Reason, State, TalkError, talk};
 
@@ -47,8 +47,12 @@ fn talk_on(alloc: Global, meta: &mut Meta, all: &[u8], read: usize, write: usize
 }
 
 fn talk_anew(alloc: Global, all: &[u8], read: usize, write: usize) -> Result<Ended, Unread> {
-    let mut meta = new_meta(alloc)?;
-    has(&meta)?;
+    let Ok(mut meta) = new_meta(alloc) else {
+        return Err(Unread);
+    };
+    let Ok(()) = has(&meta) else {
+        return Err(Unread);
+    };
     Ok(talk_on(alloc, &mut meta, all, read, write))
 }
 
@@ -64,34 +68,26 @@ fn fails(ended: &Ended, reason: Reason, sent: &[u8]) -> bool {
 }
 
 // Whether the conversation fails with the read of this number, where there is one.
-fn fails_at_read(
-    alloc: Global,
-    all: &[u8],
-    sent: &[u8],
-    ample: &Ended,
-    read: usize,
-) -> Result<bool, Unread> {
-    let ended = talk_anew(alloc, all, read, 0)?;
-    Ok(if read <= ample.reads {
+fn fails_at_read(alloc: Global, all: &[u8], sent: &[u8], ample: &Ended, read: usize) -> bool {
+    let Ok(ended) = talk_anew(alloc, all, read, 0) else {
+        return false;
+    };
+    if read <= ample.reads {
         fails(&ended, Reason::Read, sent)
     } else {
         is_whole(&ended, sent)
-    })
+    }
 }
 
-fn fails_at_write(
-    alloc: Global,
-    all: &[u8],
-    sent: &[u8],
-    ample: &Ended,
-    write: usize,
-) -> Result<bool, Unread> {
-    let ended = talk_anew(alloc, all, 0, write)?;
-    Ok(if write <= ample.writes {
+fn fails_at_write(alloc: Global, all: &[u8], sent: &[u8], ample: &Ended, write: usize) -> bool {
+    let Ok(ended) = talk_anew(alloc, all, 0, write) else {
+        return false;
+    };
+    if write <= ample.writes {
         fails(&ended, Reason::Write, sent)
     } else {
         is_whole(&ended, sent)
-    })
+    }
 }
 
 #[test]
@@ -103,11 +99,11 @@ fn a_talk_ends_where_a_call_of_a_device_fails(rt: HostRuntime) -> Result<(), Fai
     assert!(rt; is_whole(&ample, sent.as_slice()) && ample.reads > 2 && ample.writes > 2);
     for call in 1..12 {
         assert!(rt;
-            is_true(fails_at_read(rt.alloc(), all.as_slice(), sent.as_slice(), &ample, call)),
+            fails_at_read(rt.alloc(), all.as_slice(), sent.as_slice(), &ample, call),
             "{call}"
         );
         assert!(rt;
-            is_true(fails_at_write(rt.alloc(), all.as_slice(), sent.as_slice(), &ample, call)),
+            fails_at_write(rt.alloc(), all.as_slice(), sent.as_slice(), &ample, call),
             "{call}"
         );
     }

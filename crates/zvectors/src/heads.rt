@@ -5,7 +5,7 @@ use std::alloc::Global;
 use std::process::Abort;
 use std::test::Fail;
 use zber_tests::rows::{each_row, split_row, tells};
-use zber_tests::unread::Unread;
+use zber_tests::unread::{Unread, read};
 use zoom::{Failed, Sink, Source, push};
 
 // Which write fails (the first being 1; each takes three octets), then what a push answers where Init waits, the state,
@@ -26,21 +26,35 @@ fn case(write: usize) -> Case {
 }
 
 fn push_text<W: Sink>(alloc: Global, sink: &mut W) -> Result<String, Unread> {
-    let mut meta = new_meta(alloc)?;
-    has(&meta)?;
-    meta.drive(0)?;
-    has(&meta)?;
+    let Ok(mut meta) = new_meta(alloc) else {
+        return Err(Unread);
+    };
+    let Ok(()) = has(&meta) else {
+        return Err(Unread);
+    };
+    if meta.drive(0).is_err() {
+        return Err(Unread);
+    }
+    let Ok(()) = has(&meta) else {
+        return Err(Unread);
+    };
     let answer = push(alloc, &mut meta, 0, sink);
-    has(&meta)?;
+    let Ok(()) = has(&meta) else {
+        return Err(Unread);
+    };
     let state = meta.state(0);
-    Ok(format!(in alloc; "{answer:?} | {state:?}")?)
+    read(format!(in alloc; "{answer:?} | {state:?}"))
 }
 
 fn is_push(alloc: Global, row: &str) -> Result<bool, Unread> {
     let (write, due) = split_row(row, " | ");
     let mut sink = sink_of(alloc, case(write.parse::<usize>()?));
-    let answer = push_text(alloc, &mut sink)?;
-    let written = written_digits(alloc, sink)?;
+    let Ok(answer) = push_text(alloc, &mut sink) else {
+        return Err(Unread);
+    };
+    let Ok(written) = written_digits(alloc, sink) else {
+        return Err(Unread);
+    };
     Ok(tells(format!(in alloc; "{answer} | {written}"), due))
 }
 
@@ -52,7 +66,7 @@ fn count_read<R: Source>(source: &mut R) -> Result<usize, Failed> {
 
 #[test]
 fn what_waits_is_pushed(rt: HostRuntime) -> Result<(), Fail> {
-    each_row(rt.alloc(), PUSHES, &is_push)
+    each_row(rt.alloc(), PUSHES, is_push)
 }
 
 #[test]

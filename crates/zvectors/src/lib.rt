@@ -15,6 +15,8 @@ mod heads;
 #[cfg(test)]
 mod hosts;
 #[cfg(test)]
+mod known;
+#[cfg(test)]
 mod metas;
 #[cfg(test)]
 mod moves;

@@ -51,12 +51,18 @@ fn ranges_wanted(alloc: Global, is_parted: bool) -> Result<Vec<Range>, AllocErro
 }
 
 // These records of a database `d`, of those that match.
-fn question(alloc: Global, is_parted: bool) -> Result<Question, Unread>
+pub(crate) fn question(alloc: Global, is_parted: bool) -> Result<Question, Unread>
     ensures { IfOk result IsAskable }
 {
-    let databases = vec![in alloc; Bytes::from_static(b"d")]?;
-    let query = parse(alloc, b"@attr 1=4 dune")?;
-    let wanted = ranges_wanted(alloc, is_parted)?;
+    let Ok(databases) = vec![in alloc; Bytes::from_static(b"d")] else {
+        return Err(Unread);
+    };
+    let Ok(query) = parse(alloc, b"@attr 1=4 dune") else {
+        return Err(Unread);
+    };
+    let Ok(wanted) = ranges_wanted(alloc, is_parted) else {
+        return Err(Unread);
+    };
     Ok(Question {
         databases: Seq::from_vec(databases),
         query: Box::into_inner(query),
@@ -67,15 +73,21 @@ fn question(alloc: Global, is_parted: bool) -> Result<Question, Unread>
 }
 
 fn meta_of(alloc: Global, is_parted: bool) -> Result<Box<Meta>, Unread> {
-    let question = question(alloc, is_parted)?;
-    let questions = vec![in alloc; question]?;
+    let Ok(question) = question(alloc, is_parted) else {
+        return Err(Unread);
+    };
+    let Ok(questions) = vec![in alloc; question] else {
+        return Err(Unread);
+    };
     let settings = MetaSettings {
         name: Bytes::from_static(b"zmeta"),
         step: 3,
         window: 4,
     };
-    let meta = Meta::new(alloc, Seq::from_vec(questions), settings)?;
-    Ok(box_value(alloc, meta)?)
+    let Ok(meta) = Meta::new(alloc, Seq::from_vec(questions), settings) else {
+        return Err(Unread);
+    };
+    read(box_value(alloc, meta))
 }
 
 fn has(meta: &Meta) -> Result<(), Unread>
@@ -89,46 +101,70 @@ fn has(meta: &Meta) -> Result<(), Unread>
 }
 
 fn feed(alloc: Global, meta: &mut Meta, digits: &str) -> Result<(), Unread> {
-    has(meta)?;
+    let Ok(()) = has(meta) else {
+        return Err(Unread);
+    };
     if digits == "-" {
         return Ok(());
     }
-    let piece = octets(alloc, digits)?;
-    Ok(meta.feed(0, piece.as_slice())?)
+    let Ok(piece) = octets(alloc, digits) else {
+        return Err(Unread);
+    };
+    read(meta.feed(0, piece.as_slice()))
 }
 
 fn take_step(alloc: Global, meta: &mut Meta) -> Result<String, Unread> {
-    has(meta)?;
-    let step = read(meta.take(0))?;
-    Ok(format!(in alloc; "{step:?}")?)
+    let Ok(()) = has(meta) else {
+        return Err(Unread);
+    };
+    let Ok(step) = meta.take(0) else {
+        return Err(Unread);
+    };
+    read(format!(in alloc; "{step:?}"))
 }
 
 fn drive_once(meta: &mut Meta) -> Result<u32, Unread> {
-    has(meta)?;
-    Ok(meta.drive(0)?)
+    let Ok(()) = has(meta) else {
+        return Err(Unread);
+    };
+    read(meta.drive(0))
 }
 
 fn outgoing_digits(alloc: Global, meta: &mut Meta) -> Result<String, Unread> {
-    has(meta)?;
+    let Ok(()) = has(meta) else {
+        return Err(Unread);
+    };
     let mut out = Vec::new(alloc);
-    meta.outgoing(0, &mut out)?;
-    Ok(digits(alloc, out.as_slice())?)
+    if meta.outgoing(0, &mut out).is_err() {
+        return Err(Unread);
+    }
+    read(digits(alloc, out.as_slice()))
 }
 
 fn end_text(alloc: Global, meta: &Meta) -> Result<String, Unread> {
-    has(meta)?;
+    let Ok(()) = has(meta) else {
+        return Err(Unread);
+    };
     let skipped = meta.skipped(0);
     let complete = meta.complete(0);
     let finished = meta.finished();
-    Ok(format!(in alloc; "{skipped} {complete} {finished}")?)
+    read(format!(in alloc; "{skipped} {complete} {finished}"))
 }
 
 // Whether the step answers as told.
 fn goes(alloc: Global, meta: &mut Meta, fed: &str, due: &str) -> Result<bool, Unread> {
-    feed(alloc, meta, fed)?;
-    let step = take_step(alloc, meta)?;
-    let count = drive_once(meta)?;
-    let sent = outgoing_digits(alloc, meta)?;
+    if feed(alloc, meta, fed).is_err() {
+        return Err(Unread);
+    }
+    let Ok(step) = take_step(alloc, meta) else {
+        return Err(Unread);
+    };
+    let Ok(count) = drive_once(meta) else {
+        return Err(Unread);
+    };
+    let Ok(sent) = outgoing_digits(alloc, meta) else {
+        return Err(Unread);
+    };
     Ok(tells(format!(in alloc; "{step} {count} {sent}"), due))
 }
 
@@ -151,17 +187,21 @@ fn goes_through(alloc: Global, meta: &mut Meta, row: &str) -> Result<bool, Unrea
 }
 
 fn is_driven(alloc: Global, row: &str) -> Result<bool, Unread> {
-    let mut meta = meta_of(alloc, false)?;
+    let Ok(mut meta) = meta_of(alloc, false) else {
+        return Err(Unread);
+    };
     goes_through(alloc, &mut meta, row)
 }
 
 fn is_driven_in_parts(alloc: Global, row: &str) -> Result<bool, Unread> {
-    let mut meta = meta_of(alloc, true)?;
+    let Ok(mut meta) = meta_of(alloc, true) else {
+        return Err(Unread);
+    };
     goes_through(alloc, &mut meta, row)
 }
 
 #[test]
 fn a_connection_is_driven_as_told(rt: HostRuntime) -> Result<(), Fail> {
-    each_row(rt.alloc(), DRIVEN, &is_driven)?;
-    each_row(rt.alloc(), PARTED, &is_driven_in_parts)
+    each_row(rt.alloc(), DRIVEN, is_driven)?;
+    each_row(rt.alloc(), PARTED, is_driven_in_parts)
 }

@@ -8,7 +8,7 @@ use std::process::Abort;
 use std::test::Fail;
 use zapdu_tests::boxes::box_value;
 use zber_tests::rows::{each_row, halves, pair};
-use zber_tests::unread::Unread;
+use zber_tests::unread::{Unread, read};
 use zmeta_world::in_memory::InMemoryRun;
 use zoom::{Meta, Move, Reason, State};
 use zoom_sim::channels::InMemory;
@@ -83,7 +83,9 @@ fn connection(alloc: Global, arrangement: InMemoryRun) -> Result<Box<Meta>, Allo
         names: _,
         moves: _,
     } = arrangement;
-    let meta = Meta::new(alloc, questions, settings)?;
+    let Ok(meta) = Meta::new(alloc, questions, settings) else {
+        return Err(AllocError);
+    };
     box_value(alloc, meta)
 }
 
@@ -111,8 +113,10 @@ fn has_one(meta: &Meta) -> Result<(), Unread>
 }
 
 fn drive(meta: &mut Meta) -> Result<(), Unread> {
-    has_one(meta)?;
-    Ok(drive_all(meta)?)
+    let Ok(()) = has_one(meta) else {
+        return Err(Unread);
+    };
+    read(drive_all(meta))
 }
 
 // A connection, driven once.
@@ -120,8 +124,12 @@ fn driven_connection(alloc: Global) -> Result<Box<Meta>, Unread> {
     let Ok(arrangement) = in_memory(alloc, ONE) else {
         return Err(Unread);
     };
-    let mut meta = connection(alloc, arrangement)?;
-    drive(&mut meta)?;
+    let Ok(mut meta) = connection(alloc, arrangement) else {
+        return Err(Unread);
+    };
+    if drive(&mut meta).is_err() {
+        return Err(Unread);
+    }
     Ok(meta)
 }
 
@@ -130,40 +138,54 @@ fn peers(alloc: Global) -> Result<Vec<Peer>, Unread> {
     let Ok(arrangement) = in_memory(alloc, ONE) else {
         return Err(Unread);
     };
-    Ok(ends(alloc, arrangement)?)
+    read(ends(alloc, arrangement))
 }
 
 fn state(meta: &Meta) -> Result<State, Unread> {
-    has_one(meta)?;
+    let Ok(()) = has_one(meta) else {
+        return Err(Unread);
+    };
     Ok(meta.state(0))
 }
 
 fn make(peers: &mut [Peer], meta: &mut Meta, steps: &[Move]) -> Result<(), Unread> {
-    has_one(meta)?;
+    let Ok(()) = has_one(meta) else {
+        return Err(Unread);
+    };
     if peers.len() != 1 {
         return Err(Unread);
     }
-    Ok(make_moves(peers, meta, &mut InMemory, steps)?)
+    read(make_moves(peers, meta, &mut InMemory, steps))
 }
 
 // Whether the target has accepted the association once these moves were made.
 fn is_ready_after(alloc: Global, steps: &[Move]) -> Result<bool, Unread> {
-    let mut meta = driven_connection(alloc)?;
-    let mut peers = peers(alloc)?;
-    make(&mut peers, &mut meta, steps)?;
+    let Ok(mut meta) = driven_connection(alloc) else {
+        return Err(Unread);
+    };
+    let Ok(mut peers) = peers(alloc) else {
+        return Err(Unread);
+    };
+    if make(&mut peers, &mut meta, steps).is_err() {
+        return Err(Unread);
+    }
     Ok(matches!(state(&meta)?, State::Ready { .. }))
 }
 
 fn is_made(alloc: Global, row: &str) -> Result<bool, Unread> {
     let (steps, due) = halves(row);
-    let steps = moves(alloc, steps)?;
-    let due = due.parse::<bool>().map_err(|_| Unread)?;
+    let Ok(steps) = moves(alloc, steps) else {
+        return Err(Unread);
+    };
+    let Ok(due) = due.parse::<bool>().map_err(|_| Unread) else {
+        return Err(Unread);
+    };
     Ok(is_ready_after(alloc, steps.as_slice())? == due)
 }
 
 #[test]
 fn moves_are_made(rt: HostRuntime) -> Result<(), Fail> {
-    each_row(rt.alloc(), MADE, &is_made)
+    each_row(rt.alloc(), MADE, is_made)
 }
 
 // Feeds a target octets that are no message.
@@ -173,20 +195,34 @@ fn feed(peer: &mut Peer) -> Result<(), AllocError> {
 
 // A round with a target that stopped.
 fn stop(peers: &mut [Peer], meta: &mut Meta) -> Result<bool, Unread> {
-    has_one(meta)?;
+    let Ok(()) = has_one(meta) else {
+        return Err(Unread);
+    };
     if peers.len() != 1 {
         return Err(Unread);
     }
-    feed(&mut peers[0])?;
-    Ok(peers[0].go_round(meta, 0, &mut InMemory)?)
+    if feed(&mut peers[0]).is_err() {
+        return Err(Unread);
+    }
+    read(peers[0].go_round(meta, 0, &mut InMemory))
 }
 
 fn is_ended(alloc: Global) -> Result<bool, Unread> {
-    let mut meta = driven_connection(alloc)?;
-    let mut peers = peers(alloc)?;
-    let begun = state(&meta)?;
-    let carried = stop(&mut peers, &mut meta)?;
-    let ended = state(&meta)?;
+    let Ok(mut meta) = driven_connection(alloc) else {
+        return Err(Unread);
+    };
+    let Ok(mut peers) = peers(alloc) else {
+        return Err(Unread);
+    };
+    let Ok(begun) = state(&meta) else {
+        return Err(Unread);
+    };
+    let Ok(carried) = stop(&mut peers, &mut meta) else {
+        return Err(Unread);
+    };
+    let Ok(ended) = state(&meta) else {
+        return Err(Unread);
+    };
     Ok(begun == State::Initialising && carried && ended == State::Failed(Reason::Ended))
 }
 

@@ -6,22 +6,14 @@ use std::alloc::{AllocError, Global};
 use std::time::Duration;
 use zoom::{ConnectProgress, Readiness, Sockets, Transfer};
 
-/// What a host does when it is connected to.
-#[derive(Clone, Copy, PartialEq, Eq)]
-pub(crate) enum Welcome {
-    /// It refuses.
-    Refuses,
-    /// It never answers.
-    Never,
-    /// It connects after so many milliseconds.
-    After(u64),
-}
-
 /// An address of a host. Its times are in milliseconds.
 #[derive(Clone, Copy)]
 pub(crate) struct Peer {
-    pub(crate) name: &'static str,
-    pub(crate) welcome: Welcome,
+    /// The letter by which it is found.
+    pub(crate) name: u8,
+    /// Whether it refuses, or when it connects.
+    pub(crate) refuses: bool,
+    pub(crate) connects: u64,
     /// The octets that it sends.
     pub(crate) octets: &'static [u8],
     /// When the first octet comes, and how long it is from one to the next.
@@ -34,19 +26,6 @@ pub(crate) struct Peer {
     pub(crate) token: usize,
     pub(crate) answers: u64,
 }
-
-/// A host that connects after a millisecond and sends nothing.
-pub(crate) const PEER: Peer = Peer {
-    name: "",
-    welcome: Welcome::After(1),
-    octets: b"",
-    first: 0,
-    every: 0,
-    ends: u64::MAX,
-    takes: 0,
-    token: usize::MAX,
-    answers: u64::MAX,
-};
 
 impl Peer {
     /// How many octets it has sent by a time.
@@ -172,7 +151,7 @@ impl Sockets for Peers {
     fn resolve(&self, alloc: Global, text: &str) -> Result<Vec<usize>, AllocError> {
         let mut found = Vec::new(alloc);
         for i in 0..self.peers.len() {
-            if self.peers[i].name == text {
+            if text.as_bytes() == [self.peers[i].name].as_slice() {
                 found.push(i)?;
             }
         }
@@ -183,17 +162,13 @@ impl Sockets for Peers {
         let time = self.time;
         let peer = self.peers.get_mut(*address)?;
         peer.token = token;
-        peer.answers = match peer.welcome {
-            Welcome::Refuses => time.saturating_add(1),
-            Welcome::Never => u64::MAX,
-            Welcome::After(wait) => time.saturating_add(wait),
-        };
+        peer.answers = time.saturating_add(peer.connects);
         Some(*address)
     }
 
     fn progress(&mut self, socket: &usize) -> ConnectProgress {
         match self.peers.get(*socket) {
-            Some(peer) if peer.welcome != Welcome::Refuses => ConnectProgress::Connected,
+            Some(peer) if !peer.refuses => ConnectProgress::Connected,
             _ => ConnectProgress::Refused,
         }
     }

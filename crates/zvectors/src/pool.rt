@@ -14,7 +14,7 @@ use std::test::Fail;
 use zapdu_tests::boxes::box_value;
 use zapdu_tests::parts::Line;
 use zber_tests::rows::{digits, is_true, octets, pair, split_row, tells, unescape};
-use zber_tests::unread::Unread;
+use zber_tests::unread::{Unread, read};
 use zknow::Mode;
 use zknow_tests::shown::{has_list, is_listed, put_counts, put_known};
 use zoom::{Call, Pool, Reason, ResultSet, Step, TakeError};
@@ -22,14 +22,18 @@ use zorigin::CallRefused;
 
 /// So many connections in state Fresh.
 pub(crate) fn pool(alloc: Global, n: u32) -> Result<Box<Pool>, AllocError> {
-    let pool = Pool::new(alloc, n, &Bytes::from_static(b"zmeta"))?;
+    let Ok(pool) = Pool::new(alloc, n, &Bytes::from_static(b"zmeta")) else {
+        return Err(AllocError);
+    };
     box_value(alloc, pool)
 }
 
 // A pool of as many connections as the row says.
 fn pool_of(alloc: Global, row: &str) -> Result<Box<Pool>, Unread> {
-    let n = row.parse::<u32>()?;
-    Ok(pool(alloc, n)?)
+    let Ok(n) = row.parse::<u32>() else {
+        return Err(Unread);
+    };
+    read(pool(alloc, n))
 }
 
 fn has(pool: &Pool, c: u32) -> Result<(), Unread>
@@ -48,7 +52,9 @@ pub(crate) fn make(
     c: u32,
     call: &Call,
 ) -> Result<Result<(), CallRefused>, Unread> {
-    has(pool, c)?;
+    let Ok(()) = has(pool, c) else {
+        return Err(Unread);
+    };
     match call {
         Call::Present { op, set, start, n } => {
             Ok(ResultSet { c, set: *set }.present(pool, *op, *start, *n))
@@ -63,44 +69,58 @@ pub(crate) fn feed(
     c: u32,
     piece: &[u8],
 ) -> Result<Result<(), AllocError>, Unread> {
-    has(pool, c)?;
+    let Ok(()) = has(pool, c) else {
+        return Err(Unread);
+    };
     Ok(pool.feed(c, piece))
 }
 
 /// Takes a message.
 pub(crate) fn take(pool: &mut Pool, c: u32) -> Result<Result<Step, TakeError>, Unread> {
-    has(pool, c)?;
+    let Ok(()) = has(pool, c) else {
+        return Err(Unread);
+    };
     Ok(pool.take(c))
 }
 
 fn end(pool: &mut Pool, c: u32) -> Result<(), Unread> {
-    has(pool, c)?;
+    let Ok(()) = has(pool, c) else {
+        return Err(Unread);
+    };
     pool.end(c);
     Ok(())
 }
 
 fn stop(pool: &mut Pool, c: u32) -> Result<(), Unread> {
-    has(pool, c)?;
+    let Ok(()) = has(pool, c) else {
+        return Err(Unread);
+    };
     pool.stop(c, Reason::Read);
     Ok(())
 }
 
 fn outgoing(pool: &mut Pool, c: u32, out: &mut Vec<u8>) -> Result<(), Unread> {
-    has(pool, c)?;
-    Ok(pool.outgoing(c, out)?)
+    let Ok(()) = has(pool, c) else {
+        return Err(Unread);
+    };
+    read(pool.outgoing(c, out))
 }
 
 fn state(alloc: Global, pool: &Pool, c: u32) -> Result<String, Unread> {
-    has(pool, c)?;
+    let Ok(()) = has(pool, c) else {
+        return Err(Unread);
+    };
     let state = pool.state(c);
-    Ok(format!(in alloc; "{state:?}")?)
+    read(format!(in alloc; "{state:?}"))
 }
 
 // What waits to go out.
 fn out(alloc: Global, pool: &mut Pool, c: u32) -> Result<String, Unread> {
     let mut out = Vec::new(alloc);
-    outgoing(pool, c, &mut out)?;
-    Ok(digits(alloc, out.as_slice())?)
+    if outgoing(pool, c, &mut out).is_err() {
+        return Err(Unread);
+    }
+    read(digits(alloc, out.as_slice()))
 }
 
 fn made_text(alloc: Global, made: &Result<(), CallRefused>) -> Result<String, AllocError> {
@@ -111,9 +131,13 @@ fn made_text(alloc: Global, made: &Result<(), CallRefused>) -> Result<String, Al
 }
 
 fn make_call(alloc: Global, pool: &mut Pool, c: u32, step: &str) -> Result<String, Unread> {
-    let call = call(alloc, step)?;
-    let made = make(pool, c, &call)?;
-    Ok(made_text(alloc, &made)?)
+    let Ok(call) = call(alloc, step) else {
+        return Err(Unread);
+    };
+    let Ok(made) = make(pool, c, &call) else {
+        return Err(Unread);
+    };
+    read(made_text(alloc, &made))
 }
 
 fn taken_text(alloc: Global, taken: &Result<Step, TakeError>) -> Result<String, AllocError> {
@@ -124,8 +148,10 @@ fn taken_text(alloc: Global, taken: &Result<Step, TakeError>) -> Result<String, 
 }
 
 fn take_next(alloc: Global, pool: &mut Pool, c: u32) -> Result<String, Unread> {
-    let taken = take(pool, c)?;
-    Ok(taken_text(alloc, &taken)?)
+    let Ok(taken) = take(pool, c) else {
+        return Err(Unread);
+    };
+    read(taken_text(alloc, &taken))
 }
 
 /// What a step of a connection answers: `out -`, `take -`, `state -`, or a call.
@@ -141,12 +167,14 @@ pub(crate) fn answer(alloc: Global, pool: &mut Pool, c: u32, step: &str) -> Resu
 
 /// Feeds the octets that digits spell.
 pub(crate) fn feed_row(alloc: Global, pool: &mut Pool, c: u32, digits: &str) -> Result<(), Unread> {
-    let piece = octets(alloc, digits)?;
+    let Ok(piece) = octets(alloc, digits) else {
+        return Err(Unread);
+    };
     Ok(feed(pool, c, piece.as_slice())??)
 }
 
 // `feed DIGITS`, `end -` or `stop -`.
-fn befall(alloc: Global, pool: &mut Pool, c: u32, event: &str) -> Result<(), Unread> {
+fn apply_event(alloc: Global, pool: &mut Pool, c: u32, event: &str) -> Result<(), Unread> {
     let (word, row) = pair(event);
     match word {
         "feed" => feed_row(alloc, pool, c, row),
@@ -175,7 +203,9 @@ fn is_record(alloc: Global, pool: &Pool, c: u32, position: i64, due: &str) -> bo
 }
 
 fn is_row(alloc: Global, pool: &Pool, c: u32, position: &str, due: &str) -> Result<bool, Unread> {
-    let position = position.parse::<i64>()?;
+    let Ok(position) = position.parse::<i64>() else {
+        return Err(Unread);
+    };
     Ok(is_record(alloc, pool, c, position, due))
 }
 
@@ -204,7 +234,9 @@ fn goes_on(alloc: Global, pool: &mut Pool, c: u32, row: &str) -> Result<bool, Un
     match row.split_once(" = ") {
         Some((step, due)) => is_answer(alloc, pool, c, step, due),
         None => {
-            befall(alloc, pool, c, row)?;
+            if apply_event(alloc, pool, c, row).is_err() {
+                return Err(Unread);
+            }
             Ok(true)
         }
     }
@@ -212,7 +244,9 @@ fn goes_on(alloc: Global, pool: &mut Pool, c: u32, row: &str) -> Result<bool, Un
 
 fn is_list(alloc: Global, pool: &Pool, row: &str) -> Result<bool, Unread> {
     let (names, due) = split_row(row, " = ");
-    let due = unescape(alloc, due)?;
+    let Ok(due) = unescape(alloc, due) else {
+        return Err(Unread);
+    };
     Ok(has_list(alloc, pool.knowledge(), names, Mode::Text, due.as_slice()))
 }
 

@@ -88,8 +88,12 @@ fn put<E: Debug + Display>(
     out: &mut String,
 ) -> Result<(), AllocError> {
     for refusal in refusals {
-        let line = format!(in alloc; "{name} {refusal:?}: {refusal}\n")?;
-        out.push_str(line.as_str())?;
+        let Ok(line) = format!(in alloc; "{name} {refusal:?}: {refusal}\n") else {
+            return Err(AllocError);
+        };
+        if out.push_str(line.as_str()).is_err() {
+            return Err(AllocError);
+        }
     }
     Ok(())
 }
@@ -99,7 +103,9 @@ fn put_of_elements(alloc: Global, out: &mut String) -> Result<(), AllocError> {
         kind: FaultKind::StrayEnd,
         at: 2,
     };
-    put(alloc, "FrameError", &[fault, FrameError::Memory], out)?;
+    if put(alloc, "FrameError", &[fault, FrameError::Memory], out).is_err() {
+        return Err(AllocError);
+    }
     let of_values = [
         ValueError::WrongForm,
         ValueError::WrongLength,
@@ -107,7 +113,9 @@ fn put_of_elements(alloc: Global, out: &mut String) -> Result<(), AllocError> {
         ValueError::BadOid,
         ValueError::Memory,
     ];
-    put(alloc, "ValueError", &of_values, out)?;
+    if put(alloc, "ValueError", &of_values, out).is_err() {
+        return Err(AllocError);
+    }
     let of_identifiers = [
         OidError::OidText,
         OidError::OidArc,
@@ -115,7 +123,9 @@ fn put_of_elements(alloc: Global, out: &mut String) -> Result<(), AllocError> {
         OidError::OidFirst,
         OidError::Memory,
     ];
-    put(alloc, "OidError", &of_identifiers, out)?;
+    if put(alloc, "OidError", &of_identifiers, out).is_err() {
+        return Err(AllocError);
+    }
     let of_encoding = [
         EncodeError::TooDeep,
         EncodeError::TooLong,
@@ -138,9 +148,13 @@ fn put_of_notation(alloc: Global, out: &mut String) -> Result<(), AllocError> {
         PqfErrorKind::Trailing,
         PqfErrorKind::Memory,
     ];
-    put(alloc, "PqfErrorKind", &kinds, out)?;
+    if put(alloc, "PqfErrorKind", &kinds, out).is_err() {
+        return Err(AllocError);
+    }
     let kind = PqfErrorKind::UnknownSet;
-    put(alloc, "PqfError", &[PqfError { kind, at: 6 }], out)?;
+    if put(alloc, "PqfError", &[PqfError { kind, at: 6 }], out).is_err() {
+        return Err(AllocError);
+    }
     put(
         alloc,
         "PrintError",
@@ -150,18 +164,26 @@ fn put_of_notation(alloc: Global, out: &mut String) -> Result<(), AllocError> {
 }
 
 fn put_of_apdus(alloc: Global, out: &mut String) -> Result<(), AllocError> {
-    put(
+    if put(
         alloc,
         "PartError",
         &[PartError::Misfit, PartError::Memory],
         out,
-    )?;
-    put(
+    )
+    .is_err()
+    {
+        return Err(AllocError);
+    }
+    if put(
         alloc,
         "BuildError",
         &[BuildError::NotSpellable, BuildError::Memory],
         out,
-    )?;
+    )
+    .is_err()
+    {
+        return Err(AllocError);
+    }
     let malformed = ApduError::Malformed {
         kind: Kind::Close,
         at: 1,
@@ -176,7 +198,9 @@ fn put_of_apdus(alloc: Global, out: &mut String) -> Result<(), AllocError> {
 
 fn put_of_knowledge(alloc: Global, out: &mut String) -> Result<(), AllocError> {
     let of_saving = [SaveError::TooDeep, SaveError::TooLong, SaveError::Memory];
-    put(alloc, "SaveError", &of_saving, out)?;
+    if put(alloc, "SaveError", &of_saving, out).is_err() {
+        return Err(AllocError);
+    }
     let of_loading = [
         LoadError::NotKnowledge { at: 1 },
         LoadError::NotCanonical { at: 2 },
@@ -199,7 +223,9 @@ fn put_of_origins(alloc: Global, out: &mut String) -> Result<(), AllocError> {
         CallRefused::Unsendable,
         CallRefused::Memory,
     ];
-    put(alloc, "CallRefused", &of_calls, out)?;
+    if put(alloc, "CallRefused", &of_calls, out).is_err() {
+        return Err(AllocError);
+    }
     let of_replies = [
         Refused::WrongState,
         Refused::WrongKind,
@@ -218,7 +244,9 @@ fn put_of_targets(alloc: Global, out: &mut String) -> Result<(), AllocError> {
         TargetError::WrongState,
         TargetError::Memory,
     ];
-    put(alloc, "TargetError", &of_requests, out)?;
+    if put(alloc, "TargetError", &of_requests, out).is_err() {
+        return Err(AllocError);
+    }
     let diagnostic = MatchError::Code {
         code: 114,
         info: Bytes::from_static(b"5"),

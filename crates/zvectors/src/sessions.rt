@@ -13,19 +13,25 @@ use zapdu::Apdu;
 use zapdu_tests::boxes::{apdu, box_value, parse};
 use zber::{Oid, Seq};
 use zber_tests::rows::{is_true, pair, split_row, split_text};
-use zber_tests::unread::Unread;
+use zber_tests::unread::{Unread, read};
 use zoom::Call;
 use zorigin::{Ask, CallRefused, Origin, Range, Refused, Sent, Settings, Taken};
 
 fn databases(alloc: Global) -> Result<Seq<Bytes>, Unread> {
-    let databases = vec![in alloc; Bytes::from_static(b"d")]?;
+    let Ok(databases) = vec![in alloc; Bytes::from_static(b"d")] else {
+        return Err(Unread);
+    };
     Ok(Seq::from_vec(databases))
 }
 
 // For `dune` as a title in the database `d`, with these bounds.
 pub(crate) fn ask(alloc: Global, small: i64, large: i64, medium: i64) -> Result<Box<Ask>, Unread> {
-    let databases = databases(alloc)?;
-    let query = parse(alloc, b"@attr 1=4 dune")?;
+    let Ok(databases) = databases(alloc) else {
+        return Err(Unread);
+    };
+    let Ok(query) = parse(alloc, b"@attr 1=4 dune") else {
+        return Err(Unread);
+    };
     let ask = Ask {
         databases,
         query: Box::into_inner(query),
@@ -35,12 +41,14 @@ pub(crate) fn ask(alloc: Global, small: i64, large: i64, medium: i64) -> Result<
         large,
         medium,
     };
-    Ok(box_value(alloc, ask)?)
+    read(box_value(alloc, ask))
 }
 
 // The same, of which no record is to come with the response, for the element set `F` of USmarc.
 fn full_ask(alloc: Global) -> Result<Box<Ask>, Unread> {
-    let mut ask = ask(alloc, 0, 1, 0)?;
+    let Ok(mut ask) = ask(alloc, 0, 1, 0) else {
+        return Err(Unread);
+    };
     ask.syntax = Some(Oid::from_arcs(alloc, &[1, 2, 840, 10003, 5, 10])?);
     ask.elements = Some(Bytes::from_static(b"F"));
     Ok(ask)
@@ -108,47 +116,71 @@ fn search_of(alloc: Global, op: u32, set: u32, ask: Box<Ask>) -> Result<Box<Call
 // The numbers of an operation and a set.
 fn places(row: &str) -> Result<(u32, u32), Unread> {
     let (op, set) = pair(row);
-    let op = op.parse::<u32>()?;
-    let set = set.parse::<u32>()?;
+    let Ok(op) = op.parse::<u32>() else {
+        return Err(Unread);
+    };
+    let Ok(set) = set.parse::<u32>() else {
+        return Err(Unread);
+    };
     Ok((op, set))
 }
 
 // Two numbers.
 fn numbers(row: &str) -> Result<(i64, i64), Unread> {
     let (first, second) = pair(row);
-    let first = first.parse::<i64>()?;
-    let second = second.parse::<i64>()?;
+    let Ok(first) = first.parse::<i64>() else {
+        return Err(Unread);
+    };
+    let Ok(second) = second.parse::<i64>() else {
+        return Err(Unread);
+    };
     Ok((first, second))
 }
 
 // `OP SET`
 fn search(alloc: Global, row: &str) -> Result<Box<Call>, Unread> {
-    let (op, set) = places(row)?;
-    let ask = ask(alloc, 0, 1, 0)?;
-    Ok(search_of(alloc, op, set, ask)?)
+    let Ok((op, set)) = places(row) else {
+        return Err(Unread);
+    };
+    let Ok(ask) = ask(alloc, 0, 1, 0) else {
+        return Err(Unread);
+    };
+    read(search_of(alloc, op, set, ask))
 }
 
 // The same for the element set `F` of USmarc.
 fn full_search(alloc: Global, row: &str) -> Result<Box<Call>, Unread> {
-    let (op, set) = places(row)?;
-    let ask = full_ask(alloc)?;
-    Ok(search_of(alloc, op, set, ask)?)
+    let Ok((op, set)) = places(row) else {
+        return Err(Unread);
+    };
+    let Ok(ask) = full_ask(alloc) else {
+        return Err(Unread);
+    };
+    read(search_of(alloc, op, set, ask))
 }
 
 // `SMALL LARGE MEDIUM`
 fn bounded_ask(alloc: Global, bounds: &str) -> Result<Box<Ask>, Unread> {
     let (small, others) = pair(bounds);
-    let small = small.parse::<i64>()?;
-    let (large, medium) = numbers(others)?;
+    let Ok(small) = small.parse::<i64>() else {
+        return Err(Unread);
+    };
+    let Ok((large, medium)) = numbers(others) else {
+        return Err(Unread);
+    };
     ask(alloc, small, large, medium)
 }
 
 // `OP SMALL LARGE MEDIUM`, of set 1
 fn bounded_search(alloc: Global, row: &str) -> Result<Box<Call>, Unread> {
     let (op, bounds) = pair(row);
-    let op = op.parse::<u32>()?;
-    let ask = bounded_ask(alloc, bounds)?;
-    Ok(search_of(alloc, op, 1, ask)?)
+    let Ok(op) = op.parse::<u32>() else {
+        return Err(Unread);
+    };
+    let Ok(ask) = bounded_ask(alloc, bounds) else {
+        return Err(Unread);
+    };
+    read(search_of(alloc, op, 1, ask))
 }
 
 // The two first words of a row, and what stands behind them.
@@ -161,16 +193,24 @@ fn set_row(row: &str) -> (&str, &str) {
 // `OP SET START NUMBER`
 fn present(alloc: Global, row: &str) -> Result<Box<Call>, Unread> {
     let (words, range) = set_row(row);
-    let (op, set) = places(words)?;
-    let (start, n) = numbers(range.trim_start())?;
-    Ok(box_value(alloc, Call::Present { op, set, start, n })?)
+    let Ok((op, set)) = places(words) else {
+        return Err(Unread);
+    };
+    let Ok((start, n)) = numbers(range.trim_start()) else {
+        return Err(Unread);
+    };
+    read(box_value(alloc, Call::Present { op, set, start, n }))
 }
 
 // `START+NUMBER`
 fn range_in(range: &str) -> Result<Range, Unread> {
     let (start, n) = split_row(range, "+");
-    let start = start.parse::<i64>()?;
-    let n = n.parse::<i64>()?;
+    let Ok(start) = start.parse::<i64>() else {
+        return Err(Unread);
+    };
+    let Ok(n) = n.parse::<i64>() else {
+        return Err(Unread);
+    };
     Ok(Range { start, n })
 }
 
@@ -189,13 +229,15 @@ pub(crate) fn ranges_in(alloc: Global, row: &str) -> Result<Vec<Range>, Unread> 
 // `OP SET` and ranges
 fn present_ranges(alloc: Global, row: &str) -> Result<Box<Call>, Unread> {
     let (words, others) = set_row(row);
-    let (op, set) = places(words)?;
+    let Ok((op, set)) = places(words) else {
+        return Err(Unread);
+    };
     let ranges = Seq::from_vec(ranges_in(alloc, others.trim_start())?);
-    Ok(box_value(alloc, Call::PresentRanges { op, set, ranges })?)
+    read(box_value(alloc, Call::PresentRanges { op, set, ranges }))
 }
 
 fn plain(alloc: Global, call: Call) -> Result<Box<Call>, Unread> {
-    Ok(box_value(alloc, call)?)
+    read(box_value(alloc, call))
 }
 
 /// The call of a row: `init -`, `close -`, `search OP SET`, `full OP SET`, `bounds OP SMALL LARGE MEDIUM` for set 1,
@@ -227,27 +269,39 @@ fn send_call(origin: &mut Origin, call: &Call) -> Result<Sent, CallRefused> {
 }
 
 fn call_row(alloc: Global, origin: &mut Origin, step: &str) -> Result<String, Unread> {
-    let call = call(alloc, step)?;
-    let sent = box_value(alloc, send_call(origin, &call))?;
-    Ok(call_text(alloc, &sent)?)
+    let Ok(call) = call(alloc, step) else {
+        return Err(Unread);
+    };
+    let Ok(sent) = box_value(alloc, send_call(origin, &call)) else {
+        return Err(Unread);
+    };
+    read(call_text(alloc, &sent))
 }
 
 fn take_row(alloc: Global, origin: &mut Origin, digits: &str) -> Result<String, Unread> {
-    let apdu = apdu(alloc, digits)?;
-    let answer = take(alloc, origin, &apdu)?;
-    Ok(take_text(alloc, &answer)?)
+    let Ok(apdu) = apdu(alloc, digits) else {
+        return Err(Unread);
+    };
+    let Ok(answer) = take(alloc, origin, &apdu) else {
+        return Err(Unread);
+    };
+    read(take_text(alloc, &answer))
 }
 
 fn peek_row(alloc: Global, origin: &Origin, digits: &str) -> Result<String, Unread> {
-    let apdu = apdu(alloc, digits)?;
-    let answer = peek(alloc, origin, &apdu)?;
-    Ok(take_text(alloc, &answer)?)
+    let Ok(apdu) = apdu(alloc, digits) else {
+        return Err(Unread);
+    };
+    let Ok(answer) = peek(alloc, origin, &apdu) else {
+        return Err(Unread);
+    };
+    read(take_text(alloc, &answer))
 }
 
 pub(crate) fn answer(alloc: Global, origin: &mut Origin, step: &str) -> Result<String, Unread> {
     let (word, row) = pair(step);
     match word {
-        "state" => Ok(state(alloc, origin)?),
+        "state" => read(state(alloc, origin)),
         "take" => take_row(alloc, origin, row),
         "peek" => peek_row(alloc, origin, row),
         "facts" => facts_row(alloc, origin, row),
@@ -267,7 +321,9 @@ pub(crate) fn is_due(answer: &str, due: &str) -> bool {
 // Whether the step answers as it is told.
 fn goes(alloc: Global, origin: &mut Origin, row: &str) -> Result<bool, Unread> {
     let (step, due) = split_row(row, " = ");
-    let answer = answer(alloc, origin, step)?;
+    let Ok(answer) = answer(alloc, origin, step) else {
+        return Err(Unread);
+    };
     Ok(is_due(answer.as_str(), due))
 }
 

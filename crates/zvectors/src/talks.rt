@@ -12,7 +12,7 @@ use std::test::Fail;
 use zapdu_tests::boxes::{box_value, parse};
 use zber::Seq;
 use zber_tests::rows::{digits, each_row, octets, pair, split_row, tells};
-use zber_tests::unread::Unread;
+use zber_tests::unread::{Unread, read};
 use zoom::{Counting, Meta, MetaSettings, Question, answer, talk};
 
 // What can be read, how much a call moves, which read and which write fails (the first being 1), and how many reads
@@ -187,8 +187,12 @@ pub(crate) fn written_digits(alloc: Global, sink: Counting<Kept>) -> Result<Stri
 pub(crate) fn question(alloc: Global) -> Result<Question, Unread>
     ensures { IfOk result IsAskable }
 {
-    let databases = vec![in alloc; Bytes::from_static(b"d")]?;
-    let query = parse(alloc, b"@attr 1=4 dune")?;
+    let Ok(databases) = vec![in alloc; Bytes::from_static(b"d")] else {
+        return Err(Unread);
+    };
+    let Ok(query) = parse(alloc, b"@attr 1=4 dune") else {
+        return Err(Unread);
+    };
     Ok(Question {
         databases: Seq::from_vec(databases),
         query: Box::into_inner(query),
@@ -199,15 +203,21 @@ pub(crate) fn question(alloc: Global) -> Result<Question, Unread>
 }
 
 pub(crate) fn new_meta(alloc: Global) -> Result<Box<Meta>, Unread> {
-    let question = question(alloc)?;
-    let questions = vec![in alloc; question]?;
+    let Ok(question) = question(alloc) else {
+        return Err(Unread);
+    };
+    let Ok(questions) = vec![in alloc; question] else {
+        return Err(Unread);
+    };
     let settings = MetaSettings {
         name: Bytes::from_static(b"zmeta"),
         step: 3,
         window: 4,
     };
-    let meta = Meta::new(alloc, Seq::from_vec(questions), settings)?;
-    Ok(box_value(alloc, meta)?)
+    let Ok(meta) = Meta::new(alloc, Seq::from_vec(questions), settings) else {
+        return Err(Unread);
+    };
+    read(box_value(alloc, meta))
 }
 
 pub(crate) fn has(meta: &Meta) -> Result<(), Unread>
@@ -227,12 +237,18 @@ fn talk_text(
     sink: &mut Counting<Kept>,
     turns: u32,
 ) -> Result<String, Unread> {
-    let mut meta = new_meta(alloc)?;
-    has(&meta)?;
+    let Ok(mut meta) = new_meta(alloc) else {
+        return Err(Unread);
+    };
+    let Ok(()) = has(&meta) else {
+        return Err(Unread);
+    };
     let answer = talk(alloc, &mut meta, 0, source, sink, turns);
-    has(&meta)?;
+    let Ok(()) = has(&meta) else {
+        return Err(Unread);
+    };
     let state = meta.state(0);
-    Ok(format!(in alloc; "{answer:?} | {state:?}")?)
+    read(format!(in alloc; "{answer:?} | {state:?}"))
 }
 
 // The answer of a target's answering.
@@ -242,9 +258,11 @@ fn answer_text(
     sink: &mut Counting<Kept>,
     reads: u32,
 ) -> Result<String, Unread> {
-    let mut host = host(alloc)?;
+    let Ok(mut host) = host(alloc) else {
+        return Err(Unread);
+    };
     let answer = answer(alloc, &mut host, source, sink, reads);
-    Ok(format!(in alloc; "{answer:?}")?)
+    read(format!(in alloc; "{answer:?}"))
 }
 
 fn piece(alloc: Global, digits: &str) -> Result<Vec<u8>, Unread> {
@@ -257,24 +275,40 @@ fn piece(alloc: Global, digits: &str) -> Result<Vec<u8>, Unread> {
 fn is_talk(alloc: Global, row: &str) -> Result<bool, Unread> {
     let (told, due) = split_row(row, " | ");
     let (fed, told) = pair(told);
-    let case = case_of(told)?;
-    let fed = piece(alloc, fed)?;
+    let Ok(case) = case_of(told) else {
+        return Err(Unread);
+    };
+    let Ok(fed) = piece(alloc, fed) else {
+        return Err(Unread);
+    };
     let mut source = source_of(fed.as_slice(), case);
     let mut sink = sink_of(alloc, case);
-    let answer = talk_text(alloc, &mut source, &mut sink, case.turns)?;
-    let written = written_digits(alloc, sink)?;
+    let Ok(answer) = talk_text(alloc, &mut source, &mut sink, case.turns) else {
+        return Err(Unread);
+    };
+    let Ok(written) = written_digits(alloc, sink) else {
+        return Err(Unread);
+    };
     Ok(tells(format!(in alloc; "{answer} | {written}"), due))
 }
 
 fn is_answer(alloc: Global, row: &str) -> Result<bool, Unread> {
     let (told, due) = split_row(row, " | ");
     let (fed, told) = pair(told);
-    let case = case_of(told)?;
-    let fed = piece(alloc, fed)?;
+    let Ok(case) = case_of(told) else {
+        return Err(Unread);
+    };
+    let Ok(fed) = piece(alloc, fed) else {
+        return Err(Unread);
+    };
     let mut source = source_of(fed.as_slice(), case);
     let mut sink = sink_of(alloc, case);
-    let answer = answer_text(alloc, &mut source, &mut sink, case.turns)?;
-    let written = written_digits(alloc, sink)?;
+    let Ok(answer) = answer_text(alloc, &mut source, &mut sink, case.turns) else {
+        return Err(Unread);
+    };
+    let Ok(written) = written_digits(alloc, sink) else {
+        return Err(Unread);
+    };
     Ok(tells(format!(in alloc; "{answer} | {written}"), due))
 }
 
@@ -289,10 +323,10 @@ pub(crate) fn whole() -> (&'static str, &'static str) {
 
 #[test]
 fn a_talk_goes_as_told(rt: HostRuntime) -> Result<(), Fail> {
-    each_row(rt.alloc(), TALKS, &is_talk)
+    each_row(rt.alloc(), TALKS, is_talk)
 }
 
 #[test]
 fn a_target_answers_over_devices(rt: HostRuntime) -> Result<(), Fail> {
-    each_row(rt.alloc(), ANSWERS, &is_answer)
+    each_row(rt.alloc(), ANSWERS, is_answer)
 }

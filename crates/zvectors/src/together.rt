@@ -7,8 +7,8 @@ use std::alloc::Global;
 use std::test::Fail;
 use zapdu_tests::boxes::box_value;
 use zber::Seq;
-use zber_tests::rows::{is_true, octets};
-use zber_tests::unread::Unread;
+use zber_tests::rows::octets;
+use zber_tests::unread::{Unread, read};
 use zoom::{
     Counting, Failed, Halves, Meta, MetaSettings, NonBlocking, Reason, State, Unwatched,
     talk_at_once,
@@ -76,8 +76,10 @@ fn asked_twice(alloc: Global) -> Result<Box<Meta>, Unread> {
         step: 3,
         window: 4,
     };
-    let meta = Meta::new(alloc, Seq::from_vec(questions), settings)?;
-    Ok(box_value(alloc, meta)?)
+    let Ok(meta) = Meta::new(alloc, Seq::from_vec(questions), settings) else {
+        return Err(Unread);
+    };
+    read(box_value(alloc, meta))
 }
 
 fn has_two(meta: &Meta) -> Result<(), Unread>
@@ -103,21 +105,35 @@ fn sent_by(
         sink,
         phase: _,
     } = ends;
-    Ok(written_digits(alloc, sink)?)
+    read(written_digits(alloc, sink))
 }
 
 // How both conversations end, of which each source has all octets at the polls that its mask leaves.
 fn talk_both(alloc: Global, all: &[u8], masks: (u32, u32)) -> Result<(Ended, Ended), Unread> {
-    let mut meta = asked_twice(alloc)?;
-    has_two(&meta)?;
+    let Ok(mut meta) = asked_twice(alloc) else {
+        return Err(Unread);
+    };
+    let Ok(()) = has_two(&meta) else {
+        return Err(Unread);
+    };
     let first = Halves::new(source_with(all, masks.0), empty_sink(alloc));
     let second = Halves::new(source_with(all, masks.1), empty_sink(alloc));
-    let mut ends = vec![in alloc; Some(first), Some(second)]?;
-    talk_at_once(alloc, &mut meta, &mut ends, TURNS, &mut Unwatched)?;
-    has_two(&meta)?;
+    let Ok(mut ends) = vec![in alloc; Some(first), Some(second)] else {
+        return Err(Unread);
+    };
+    if talk_at_once(alloc, &mut meta, &mut ends, TURNS, &mut Unwatched).is_err() {
+        return Err(Unread);
+    }
+    let Ok(()) = has_two(&meta) else {
+        return Err(Unread);
+    };
     let mut all = ends.into_iter();
-    let first = sent_by(alloc, all.next())?;
-    let second = sent_by(alloc, all.next())?;
+    let Ok(first) = sent_by(alloc, all.next()) else {
+        return Err(Unread);
+    };
+    let Ok(second) = sent_by(alloc, all.next()) else {
+        return Err(Unread);
+    };
     Ok((
         Ended {
             state: meta.state(0),
@@ -138,21 +154,22 @@ fn is_as_alone(ended: &Ended, mask: u32, sent: &str) -> bool {
     ended.state == State::Closed && ended.written.as_str() == sent
 }
 
-fn are_as_alone(alloc: Global, masks: (u32, u32)) -> Result<bool, Unread> {
+fn are_as_alone(alloc: Global, masks: (u32, u32)) -> bool {
     let (digits, sent) = whole();
-    let all = octets(alloc, digits)?;
-    let (first, second) = talk_both(alloc, all.as_slice(), masks)?;
-    Ok(is_as_alone(&first, masks.0, sent) && is_as_alone(&second, masks.1, sent))
+    let Ok(all) = octets(alloc, digits) else {
+        return false;
+    };
+    let Ok((first, second)) = talk_both(alloc, all.as_slice(), masks) else {
+        return false;
+    };
+    is_as_alone(&first, masks.0, sent) && is_as_alone(&second, masks.1, sent)
 }
 
 #[test]
 fn talks_at_once_go_as_alone(rt: HostRuntime) -> Result<(), Fail> {
     for mask in 0..16 {
-        assert!(rt;
-            is_true(are_as_alone(rt.alloc(), (mask, 15 - mask))),
-            "{mask}"
-        );
-        assert!(rt; is_true(are_as_alone(rt.alloc(), (0, mask))), "{mask}");
+        assert!(rt; are_as_alone(rt.alloc(), (mask, 15 - mask)), "{mask}");
+        assert!(rt; are_as_alone(rt.alloc(), (0, mask)), "{mask}");
     }
     Ok(())
 }

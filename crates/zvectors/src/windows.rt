@@ -19,9 +19,13 @@ take b7128204000000019701649801009901009601ff
 ";
 
 fn ready(alloc: Global) -> Result<Box<Origin>, Unread> {
-    let mut origin = origin(alloc)?;
+    let Ok(mut origin) = origin(alloc) else {
+        return Err(Unread);
+    };
     for row in READY.lines() {
-        answer(alloc, &mut origin, row)?;
+        if answer(alloc, &mut origin, row).is_err() {
+            return Err(Unread);
+        }
     }
     Ok(origin)
 }
@@ -34,8 +38,12 @@ fn operation(place: u8) -> u32 {
 fn is_asked(alloc: Global, origin: &mut Origin, place: u8) -> Result<bool, Unread> {
     let op = operation(place);
     let position = i64::from(place) + 1;
-    let step = format!(in alloc; "present {op} 1 {position} 1")?;
-    let answer = answer(alloc, origin, step.as_str())?;
+    let Ok(step) = format!(in alloc; "present {op} 1 {position} 1") else {
+        return Err(Unread);
+    };
+    let Ok(answer) = answer(alloc, origin, step.as_str()) else {
+        return Err(Unread);
+    };
     Ok(is_due(answer.as_str(), "sent"))
 }
 
@@ -50,10 +58,14 @@ fn are_asked(alloc: Global, origin: &mut Origin, window: u8) -> bool {
 
 // A reply with one record to this operation.
 fn reply(alloc: Global, op: u32) -> Result<Box<Apdu>, Unread> {
-    let id = hex::encode(alloc, &op.to_be_bytes())?;
-    let digits = format!(in alloc;
+    let Ok(id) = hex::encode(alloc, &op.to_be_bytes()) else {
+        return Err(Unread);
+    };
+    let Ok(digits) = format!(in alloc;
         "b9268204{id}9801019901009b0100bc153013a111a10f280d06072a8648ce13050a81026869"
-    )?;
+    ) else {
+        return Err(Unread);
+    };
     apdu(alloc, digits.as_str())
 }
 
@@ -65,16 +77,20 @@ fn is_answer(taken: &Result<Taken, Refused>, op: u32) -> bool {
     }
 }
 
-fn is_answered(alloc: Global, origin: &mut Origin, place: u8) -> Result<bool, Unread> {
+fn is_answered(alloc: Global, origin: &mut Origin, place: u8) -> bool {
     let op = operation(place);
-    let reply = reply(alloc, op)?;
-    let taken = take(alloc, origin, &reply)?;
-    Ok(is_answer(&taken, op))
+    let Ok(reply) = reply(alloc, op) else {
+        return false;
+    };
+    let Ok(taken) = take(alloc, origin, &reply) else {
+        return false;
+    };
+    is_answer(&taken, op)
 }
 
 fn are_answered(alloc: Global, origin: &mut Origin, from: u8, to: u8) -> bool {
     for place in from..to {
-        if !is_true(is_answered(alloc, origin, place)) {
+        if !is_answered(alloc, origin, place) {
             return false;
         }
     }
@@ -82,13 +98,14 @@ fn are_answered(alloc: Global, origin: &mut Origin, from: u8, to: u8) -> bool {
 }
 
 // Whether the replies from this place on come first, and then the others.
-fn is_window(alloc: Global, window: u8, first: u8) -> Result<bool, Unread> {
-    let mut origin = ready(alloc)?;
-    Ok(
-        are_asked(alloc, &mut origin, window)
-            && are_answered(alloc, &mut origin, first, window)
-            && are_answered(alloc, &mut origin, 0, first),
-    )
+fn is_window(alloc: Global, window: u8, first: u8) -> bool {
+    let Ok(mut origin) = ready(alloc) else {
+        return false;
+    };
+
+    are_asked(alloc, &mut origin, window)
+        && are_answered(alloc, &mut origin, first, window)
+        && are_answered(alloc, &mut origin, 0, first)
 }
 
 #[test]
@@ -102,10 +119,7 @@ fn windows_are_answered_in_any_order(rt: HostRuntime) -> Result<(), Fail> {
         (64, 32),
         (64, 63),
     ] {
-        assert!(rt;
-            is_true(is_window(rt.alloc(), window, first)),
-            "{window} {first}"
-        );
+        assert!(rt; is_window(rt.alloc(), window, first), "{window} {first}");
     }
     Ok(())
 }
@@ -113,7 +127,9 @@ fn windows_are_answered_in_any_order(rt: HostRuntime) -> Result<(), Fail> {
 // Whether Init is refused for a name of so many octets.
 fn is_unsendable(alloc: Global, len: usize) -> Result<bool, Unread> {
     let name = Bytes::from_vec(vec![in alloc; b'a'; len]?)?;
-    let mut origin = origin_of(alloc, name)?;
+    let Ok(mut origin) = origin_of(alloc, name) else {
+        return Err(Unread);
+    };
     Ok(tells(answer(alloc, &mut origin, "init -"), "Unsendable"))
 }
 

@@ -119,19 +119,23 @@ fn line_of(number: &str) -> Result<Option<WorldError>, Unread> {
     if number == "-" {
         return Ok(None);
     }
-    let line = number.parse::<u64>()?;
+    let Ok(line) = number.parse::<u64>() else {
+        return Err(Unread);
+    };
     Ok(Some(WorldError::Refused { line }))
 }
 
 fn is_refused(alloc: Global, row: &str) -> Result<bool, Unread> {
     let (file, line) = halves(row);
-    let file = unescape(alloc, file)?;
+    let Ok(file) = unescape(alloc, file) else {
+        return Err(Unread);
+    };
     Ok(fault(alloc, file.as_slice())? == line_of(line)?)
 }
 
 #[test]
 fn each_line_is_read_or_refused(rt: HostRuntime) -> Result<(), Fail> {
-    each_row(rt.alloc(), FILES, &is_refused)
+    each_row(rt.alloc(), FILES, is_refused)
 }
 
 const SMALL: &[u8] = b"step 3
@@ -157,8 +161,10 @@ fn world(alloc: Global, file: &[u8]) -> Result<Box<World>, Unread> {
     if file.len() > 1_000_000 {
         return Err(Unread);
     }
-    let world = read(read_world(alloc, file))?;
-    Ok(box_value(alloc, world)?)
+    let Ok(world) = read_world(alloc, file) else {
+        return Err(Unread);
+    };
+    read(box_value(alloc, world))
 }
 
 // Whether it has two records, of which the first has a title.
@@ -204,7 +210,9 @@ fn has_targets(world: &World) -> bool {
 }
 
 fn gives_targets(alloc: Global) -> Result<bool, Unread> {
-    let world = world(alloc, SMALL)?;
+    let Ok(world) = world(alloc, SMALL) else {
+        return Err(Unread);
+    };
     Ok(world.step == 3 && world.window == 4 && has_targets(&world))
 }
 
@@ -256,7 +264,9 @@ fn has_moves(world: &World) -> bool {
 }
 
 fn gives_questions(alloc: Global) -> Result<bool, Unread> {
-    let world = world(alloc, SMALL)?;
+    let Ok(world) = world(alloc, SMALL) else {
+        return Err(Unread);
+    };
     Ok(has_host(&world) && has_questions(&world) && has_moves(&world))
 }
 
@@ -269,8 +279,13 @@ fn a_file_gives_questions_and_moves(rt: HostRuntime) {
 fn many(alloc: Global, count: u32) -> Result<Vec<u8>, AllocError> {
     let mut file = Vec::new(alloc);
     for number in 0..count {
-        let lines = format!(in alloc; "host n{number} h:210\nask n{number} d - 10 dune\n")?;
-        file.extend_from_slice(lines.as_bytes())?;
+        let Ok(lines) = format!(in alloc; "host n{number} h:210\nask n{number} d - 10 dune\n")
+        else {
+            return Err(AllocError);
+        };
+        if file.extend_from_slice(lines.as_bytes()).is_err() {
+            return Err(AllocError);
+        }
     }
     Ok(file)
 }
@@ -283,8 +298,12 @@ fn has_last(world: &World) -> bool {
 }
 
 fn gives_a_thousand(alloc: Global) -> Result<bool, Unread> {
-    let file = many(alloc, 1000)?;
-    let world = world(alloc, file.as_slice())?;
+    let Ok(file) = many(alloc, 1000) else {
+        return Err(Unread);
+    };
+    let Ok(world) = world(alloc, file.as_slice()) else {
+        return Err(Unread);
+    };
     Ok(world.hosts.len() == 1000 && world.questions.len() == 1000 && has_last(&world))
 }
 

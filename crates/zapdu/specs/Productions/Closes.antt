@@ -6,6 +6,8 @@ use Rattle.zasn.specs.Places.{of_table, octets, integer, oid, opaque, within, ex
 use Rattle.zapdu.specs.declared.productions.close.Close.{Close}
 use Rattle.zapdu.specs.Productions.Externals.{external_parts}
 
+-- referenceId [2], closeReason [211], diagnosticInformation [3], resourceReportFormat [4], resourceReport [5]
+-- EXTERNAL, whose tag is explicit, otherInfo [201]
 abbrev pub close_table : ComponentTable Close
 close_table =
     optional (octets (context 2)) (λ v. v.reference_id)

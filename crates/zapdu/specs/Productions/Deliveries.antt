@@ -6,6 +6,8 @@ use Rattle.zasn.specs.Table.{ComponentTable, optional, ended, ◌⨾◌, Element
 use Rattle.zasn.specs.Places.{of_table, oid, opaque, kept}
 use Rattle.zapdu.specs.declared.productions.delivery.Delivery.{Delivery}
 
+-- preferredRecordSyntax [104], maxSegmentCount [204], maxRecordSize [206], maxSegmentSize [207], otherInfo [201]; the
+-- last four are kept as their elements
 abbrev pub delivery_table : ComponentTable Delivery
 delivery_table =
     optional (oid (context 104)) (λ v. v.preferred_record_syntax)
@@ -15,6 +17,7 @@ delivery_table =
     ⨾ optional (opaque (context 201)) (λ v. v.other_info)
     ⨾ ended
 
+-- the last five fields of a PresentRequest as one value
 abbrev pub delivery : Option (List ℕ) → Option Element → Option Element → Option Element → Option Element → Delivery
 delivery syntax segments record_size segment_size other =
     record {

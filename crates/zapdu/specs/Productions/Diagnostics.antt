@@ -20,6 +20,7 @@ infos =
     either (octets (universal 26)) V2
     (finally (octets (universal 27)) V3)
 
+-- which form of addinfo it is, v2Addinfo first, and its octets
 abbrev pub info_pick : Info → Pick infos
 info_pick (V2 xs) = inl xs
 info_pick (V3 xs) = inr xs
@@ -32,9 +33,11 @@ pub info-back : (x : Pick infos) → info_pick (picked infos x) ≡ x
 info-back (inl xs) = refl
 info-back (inr xs) = refl
 
+-- addinfo: the tag of VisibleString [UNIVERSAL 26] or of GeneralString [UNIVERSAL 27] gives its form
 abbrev pub info : Place Info
 info = of_choice infos info_pick info-same info-back refl
 
+-- DefaultDiagFormat: diagnosticSetId OBJECT IDENTIFIER, condition INTEGER, addinfo
 abbrev pub default_table : ComponentTable DefaultDiag
 default_table =
     required (oid (universal 6)) (λ v. v.diag_set)
@@ -52,6 +55,7 @@ diag_recs =
     either (within (universal 16) default_parts) Default
     (finally (within (universal 8) external_parts) Ext)
 
+-- which form of diagnostic it is, defaultFormat first, and its value
 abbrev pub diag_pick : DiagRec → Pick diag_recs
 diag_pick (Default v) = inl v
 diag_pick (Ext v) = inr v
@@ -64,6 +68,7 @@ pub diag-back : (x : Pick diag_recs) → diag_pick (picked diag_recs x) ≡ x
 diag-back (inl v) = refl
 diag-back (inr v) = refl
 
+-- DiagRec, in surrogateDiagnostic and multipleNonSurDiagnostics: the tag of SEQUENCE or of EXTERNAL gives its form
 abbrev pub diag_rec : Place DiagRec
 diag_rec = of_choice diag_recs diag_pick diag-same diag-back refl
 

@@ -22,6 +22,7 @@ database_element_set_parts =
     of_table database_element_set_table (λ a b. record { database_name = a; element_set_name = b }) (λ v. refl)
     (λ x. refl) refl
 
+-- one entry of databaseSpecific: a SEQUENCE of a database and the element set for its records
 abbrev pub whole_database_element_set : Place DatabaseElementSet
 whole_database_element_set = within (universal 16) database_element_set_parts
 
@@ -31,6 +32,7 @@ kinds_of_element_set_names =
     either (octets (context 0)) Generic
     (finally (list (context 1) whole_database_element_set) DatabaseSpecific)
 
+-- which form of element set names it is, genericElementSetName first, and its value
 abbrev pub element_set_names_pick : ElementSetNames → Pick kinds_of_element_set_names
 element_set_names_pick (Generic xs) = inl xs
 element_set_names_pick (DatabaseSpecific vs) = inr vs

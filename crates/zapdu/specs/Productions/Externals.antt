@@ -17,6 +17,7 @@ contents =
     (either (octets (context 1)) Aligned
     (finally (bits (context 2)) Arbitrary))
 
+-- which form of encoding it is, in the order of the tags [0], [1] and [2], and its value
 abbrev pub content_pick : Content → Pick contents
 content_pick (Single m) = inl m
 content_pick (Aligned xs) = inr (inl xs)
@@ -32,9 +33,11 @@ content-back (inl m) = refl
 content-back (inr (inl xs)) = refl
 content-back (inr (inr bs)) = refl
 
+-- encoding of an EXTERNAL: the tag [0], [1] or [2] gives its form
 abbrev pub content : Place Content
 content = of_choice contents content_pick content-same content-back refl
 
+-- direct-reference OBJECT IDENTIFIER, indirect-reference INTEGER, data-value-descriptor ObjectDescriptor, encoding
 abbrev pub external_table : ComponentTable External
 external_table =
     optional (oid (universal 6)) (λ v. v.direct)

@@ -8,6 +8,8 @@ use Rattle.zapdu.specs.declared.productions.external.External.{External}
 use Rattle.zapdu.specs.declared.productions.implementation.Implementation.{Implementation}
 use Rattle.zapdu.specs.Productions.Externals.{external_parts}
 
+-- implementationId [110], implementationName [111], implementationVersion [112], userInformationField [11] EXTERNAL,
+-- whose tag is explicit, otherInfo [201]
 abbrev pub implementation_table : ComponentTable Implementation
 implementation_table =
     optional (octets (context 110)) (λ v. v.implementation_id)
@@ -17,6 +19,7 @@ implementation_table =
     ⨾ optional (opaque (context 201)) (λ v. v.other_info)
     ⨾ ended
 
+-- the last five fields of an InitializeRequest or an InitializeResponse as one value
 abbrev pub implementation : Option (List ℕ) → Option (List ℕ) → Option (List ℕ) → Option External → Option Element
     → Implementation
 implementation id name version information other =

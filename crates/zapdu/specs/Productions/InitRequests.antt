@@ -6,6 +6,8 @@ use Rattle.zasn.specs.Places.{of_table, octets, bits, integer, any}
 use Rattle.zapdu.specs.declared.productions.init_request.InitRequest.{InitRequest}
 use Rattle.zapdu.specs.Productions.Implementations.{implementation, implementation_parts}
 
+-- referenceId [2], protocolVersion [3], options [4], preferredMessageSize [5], exceptionalRecordSize [6],
+-- idAuthentication [7] ANY, whose tag is explicit, then the places that an InitializeResponse also ends with
 abbrev pub init_request_table : ComponentTable InitRequest
 init_request_table =
     optional (octets (context 2)) (λ v. v.reference_id)

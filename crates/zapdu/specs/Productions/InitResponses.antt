@@ -6,6 +6,8 @@ use Rattle.zasn.specs.Places.{of_table, octets, bits, integer, boolean}
 use Rattle.zapdu.specs.declared.productions.init_response.InitResponse.{InitResponse}
 use Rattle.zapdu.specs.Productions.Implementations.{implementation, implementation_parts}
 
+-- referenceId [2], protocolVersion [3], options [4], preferredMessageSize [5], exceptionalRecordSize [6],
+-- result [12], then the places that an InitializeRequest also ends with
 abbrev pub init_response_table : ComponentTable InitResponse
 init_response_table =
     optional (octets (context 2)) (λ v. v.reference_id)

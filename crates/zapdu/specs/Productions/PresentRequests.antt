@@ -8,6 +8,8 @@ use Rattle.zapdu.specs.Productions.Ranges.{whole_range}
 use Rattle.zapdu.specs.Productions.RecordCompositions.{record_composition}
 use Rattle.zapdu.specs.Productions.Deliveries.{delivery, delivery_parts}
 
+-- referenceId [2], resultSetId [31], resultSetStartPoint [30], numberOfRecordsRequested [29], additionalRanges [212]
+-- SEQUENCE OF Range, recordComposition, then how the target is to deliver the records
 abbrev pub present_request_table : ComponentTable PresentRequest
 present_request_table =
     optional (octets (context 2)) (λ v. v.reference_id)

@@ -6,6 +6,8 @@ use Rattle.zasn.specs.Places.{of_table, octets, integer, opaque}
 use Rattle.zapdu.specs.declared.productions.present_response.PresentResponse.{PresentResponse}
 use Rattle.zapdu.specs.Productions.Records.{records}
 
+-- referenceId [2], numberOfRecordsReturned [24], nextResultSetPosition [25], presentStatus [27], records,
+-- otherInfo [201]
 abbrev pub present_response_table : ComponentTable PresentResponse
 present_response_table =
     optional (octets (context 2)) (λ v. v.reference_id)

@@ -15,6 +15,7 @@ compositions =
     either (explicit (context 19) element_set_names) Simple
     (finally (opaque (context 209)) Complex)
 
+-- which form of record composition it is, simple first, and its value
 abbrev pub composition_pick : RecordComposition → Pick compositions
 composition_pick (Simple v) = inl v
 composition_pick (Complex m) = inr m
@@ -27,5 +28,6 @@ pub composition-back : (x : Pick compositions) → composition_pick (picked comp
 composition-back (inl v) = refl
 composition-back (inr m) = refl
 
+-- recordComposition of a PresentRequest: the tag [19] or [209] gives its form
 abbrev pub record_composition : Place RecordComposition
 record_composition = of_choice compositions composition_pick composition-same composition-back refl

@@ -23,6 +23,7 @@ bodies =
     (either (explicit (context 2) diag_rec) Surrogate
     (finally (kept (context 3) (context 4 ∷ context 5 ∷ [])) Fragment))
 
+-- which form of record it is (a retrieval record, a surrogate diagnostic or a fragment), and its value
 abbrev pub body_pick : RecordBody → Pick bodies
 body_pick (Retrieval v) = inl v
 body_pick (Surrogate v) = inr (inl v)
@@ -38,6 +39,7 @@ body-back (inl v) = refl
 body-back (inr (inl v)) = refl
 body-back (inr (inr m)) = refl
 
+-- record of a NamePlusRecord, without the explicit tag [1] around it: its own tag [1] to [5] gives its form
 abbrev pub body : Place RecordBody
 body = of_choice bodies body_pick body-same body-back refl
 
@@ -51,6 +53,7 @@ record_table =
 unfoldable pub record_parts : Elements Record
 record_parts = of_table record_table (λ a b. record { name = a; body = b }) (λ v. refl) (λ x. refl) refl
 
+-- one entry of responseRecords: a SEQUENCE of the name of the database, which may be absent, and the record
 abbrev pub whole_record : Place Record
 whole_record = within (universal 16) record_parts
 
@@ -69,6 +72,7 @@ kinds_of_records =
     (either (within (context 130) default_parts) OneDiag
     (finally (list (context 205) diag_rec) ManyDiags))
 
+-- which form of records it is (records, one nonsurrogate diagnostic or several diagnostics), and its value
 abbrev pub records_pick : Records → Pick kinds_of_records
 records_pick (List vs) = inl vs
 records_pick (OneDiag v) = inr (inl v)
@@ -84,5 +88,6 @@ records-back (inl vs) = refl
 records-back (inr (inl v)) = refl
 records-back (inr (inr vs)) = refl
 
+-- records of a SearchResponse or a PresentResponse: the tag [28], [130] or [205] gives their form
 abbrev pub records : Place Records
 records = of_choice kinds_of_records records_pick records-same records-back refl

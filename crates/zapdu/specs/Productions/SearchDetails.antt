@@ -8,6 +8,8 @@ use Rattle.zapdu.specs.declared.productions.search_request.SearchRequest.{Search
 use Rattle.zapdu.specs.Productions.ElementSets.{element_set_names}
 use Rattle.zapdu.specs.Productions.SearchQueries.{search_query}
 
+-- smallSetElementSetNames [100], mediumSetElementSetNames [101], preferredRecordSyntax [104], query [21],
+-- additionalSearchInfo [203], otherInfo [201]; the tags [100], [101] and [21] are explicit
 abbrev pub search_details_table : ComponentTable SearchDetails
 search_details_table =
     optional (explicit (context 100) element_set_names) (λ v. v.small_set_element_set_names)

@@ -23,9 +23,11 @@ abbrev pub of_sum : RpnQuery ⊎ Element → SearchQuery
 of_sum (inl q) = Rpn q
 of_sum (inr m) = Other m
 
+-- query as a choice of one kind: the tag [21] stands around any query, and the element within gives the type
 abbrev pub queries : Choice SearchQuery
 queries = finally either_query of_sum
 
+-- the value of this choice: the tree of a query of type 1, or the element of another query
 abbrev pub query_pick : SearchQuery → Pick queries
 query_pick (Rpn q) = inl q
 query_pick (Other m) = inr m

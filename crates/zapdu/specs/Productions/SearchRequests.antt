@@ -7,6 +7,8 @@ use Rattle.zapdu.specs.declared.productions.search_request.SearchRequest.{Search
 use Rattle.zapdu.specs.Productions.SearchQueries.{search_query}
 use Rattle.zapdu.specs.Productions.SearchDetails.{details_of, search_details_parts}
 
+-- referenceId [2], smallSetUpperBound [13], largeSetLowerBound [14], mediumSetPresentNumber [15],
+-- replaceIndicator [16], resultSetName [17], databaseNames [18] SEQUENCE OF DatabaseName [105], then the details
 abbrev pub search_request_table : ComponentTable SearchRequest
 search_request_table =
     optional (octets (context 2)) (λ v. v.reference_id)

@@ -6,6 +6,8 @@ use Rattle.zasn.specs.Places.{of_table, octets, integer, boolean, opaque}
 use Rattle.zapdu.specs.declared.productions.search_response.SearchResponse.{SearchResponse}
 use Rattle.zapdu.specs.Productions.Records.{records}
 
+-- referenceId [2], resultCount [23], numberOfRecordsReturned [24], nextResultSetPosition [25], searchStatus [22],
+-- resultSetStatus [26], presentStatus [27], records, additionalSearchInfo [203], otherInfo [201]
 abbrev pub search_response_table : ComponentTable SearchResponse
 search_response_table =
     optional (octets (context 2)) (λ v. v.reference_id)

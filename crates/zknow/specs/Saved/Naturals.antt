@@ -20,6 +20,7 @@ use Rattle.zknow.specs.declared.saved.natural.Natural.{Natural}
 abbrev pub is_natural : ℕ → Bool
 is_natural n = nat_lt n (2 ^ 32)
 
+-- the integer as a number, if it is from 0 to 4,294,967,295
 abbrev pub natural_in : ℤ → Option Natural
 natural_in (pos n) = if is_natural n then Some (record { number = n }) else None
 natural_in (negsuc n) = None
@@ -32,6 +33,7 @@ natural_of e = int_meaning e >>= natural_in
 abbrev pub natural_octets : Natural → List ℕ
 natural_octets v = integer_octets (pos v.number)
 
+-- the number is at most 4,294,967,295; no other has an element
 abbrev pub fits : Natural → Bool
 fits v = is_natural v.number
 

@@ -76,6 +76,7 @@ unfoldable pub seen_parts : Elements SavedSeen
 seen_parts =
     of_table seen_table (λ a b c d. record { target = a; set = b; position = c; rec = d }) (λ v. refl) (λ x. refl) refl
 
+-- the parts of a Seen, which has a record at a position of a target's set
 abbrev pub saved_seen : Natural → Natural → ℤ → Record → SavedSeen
 saved_seen target set position rec = record { target = target; set = set; position = position; rec = rec }
 
@@ -92,6 +93,7 @@ unfoldable pub diag_parts : Elements SavedDiag
 diag_parts =
     of_table diag_table (λ a b c d. record { target = a; set = b; place = c; diag = d }) (λ v. refl) (λ x. refl) refl
 
+-- the parts of a Diag, which has a diagnostic at a place of a target's set
 abbrev pub saved_diag : Natural → Natural → ℤ → DiagRec → SavedDiag
 saved_diag target set place diag = record { target = target; set = set; place = place; diag = diag }
 

@@ -22,12 +22,15 @@ number_pairs t = section (λ xs. xs) (λ p x. (p, x)) t
 abbrev pub counts_of : Tables → List Fact
 counts_of k = section (λ xs. xs) (λ e n. Count e.target e.set n) k.counts
 
+-- a fact for each set that is marked as failed, in the order of the table
 abbrev pub failed_of : Tables → List Fact
 failed_of k = section marked (λ e u. Failed e.target e.set) k.failed
 
+-- a fact for each record at each position of each set, in the order of the table
 abbrev pub seen_of : Tables → List Fact
 seen_of k = section number_pairs (λ e x. Seen e.target e.set x.0 x.1) k.seen
 
+-- a fact for each diagnostic at each place of each set, in the order of the table
 abbrev pub diags_of : Tables → List Fact
 diags_of k = section number_pairs (λ e x. Diag e.target e.set x.0 x.1) k.diags
 

@@ -20,7 +20,7 @@ use Rattle.ztarget.specs.Showing.{retrieval, surrogate, in_syntax, size_of, reco
 use Rattle.ztarget.specs.Standing.{Terms}
 use Rattle.ztarget.specs.Positions.{received_additional, ranges_of, is_in_set, are_in_set, at_positions}
 use Rattle.ztarget.specs.Responding.{response_records, due_count, search_records, search_found, search_failed, ranges_fault, composition_fault, present_fault, asked_positions, present_records, present_response, present_failed, present_unless, presented}
-use Rattle.ztarget.proofs.WhatFits.{what_fits}
+use Rattle.ztarget.proofs.LargestResponses.{what_fits}
 use Rattle.ztarget.proofs.AskedPositions.{some_at}
 
 -- ---- the records of a response

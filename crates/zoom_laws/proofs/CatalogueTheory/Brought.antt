@@ -40,7 +40,7 @@ use Rattle.ztarget.specs.Showing.{shown_record, held, in_syntax, size_of, surrog
 use Rattle.ztarget.specs.Faults as faults
 use Rattle.ztarget.specs.Responding.{due_count, response_records}
 use Rattle.ztarget.specs.Replies.{replies}
-use Rattle.ztarget.specs.Laws.{KeptSets, WhatFits}
+use Rattle.ztarget.specs.Laws.{KeptSets, LargestResponses}
 use Rattle.zoom_questions.specs.declared.question.Question.{Question}
 use Rattle.zoom_questions.specs.declared.question.MetaSettings.{MetaSettings}
 use Rattle.zoom_pool.specs.Driving.{operation_for, reply_for, can_search, can_present, counted, events_of}
@@ -146,7 +146,7 @@ module _ (orderly : (s : Settings) (l : Log) → IsOrderly (past s l))
     (k : IsDriver (errand_of s q) settings log d)
     (talks : (x : Answer) → IsIn x (past settings log).accepted
     → IsIn x.reply (replies databases offers (requests settings log)))
-    (shows_laws : ShownLaws) (fits : WhatFits) (complete : complete_in (past settings log) ≡ true) (c : ℕ) where
+    (shows_laws : ShownLaws) (fits : LargestResponses) (complete : complete_in (past settings log) ≡ true) (c : ℕ) where
   abbrev ask_here : List PlanEvent
   ask_here = events_of (ask_of q) settings log
 
@@ -500,7 +500,7 @@ module _ (orderly : (s : Settings) (l : Log) → IsOrderly (past s l))
 
 module _ (orderly : (s : Settings) (l : Log) → IsOrderly (past s l))
     (accepting : (s : Settings) (l : Log) (x : Answer) → Contains (past s l).accepted x → IsAccepted s l x)
-    (sets_kept : KeptSets) (shows_laws : ShownLaws) (fits : WhatFits) where
+    (sets_kept : KeptSets) (shows_laws : ShownLaws) (fits : LargestResponses) where
   pub talked : (databases : List Database) (offers : TargetSettings) (p : Transcript) → AreOwed databases offers p → (x : Answer)
       → IsIn x (accepted p) → IsIn x.reply (replies databases offers (requests p.settings p.log))
   talked databases offers p owed x i =

@@ -27,7 +27,7 @@ use Rattle.zorigin.specs.Laws.{IsOrderly}
 use Rattle.ztarget.specs.declared.database.Database.{Database}
 use Rattle.ztarget.specs.declared.settings.TargetSettings.{TargetSettings}
 use Rattle.ztarget.specs.Replies.{replies}
-use Rattle.ztarget.specs.Laws.{KeptSets, WhatFits}
+use Rattle.ztarget.specs.Laws.{KeptSets, LargestResponses}
 use Rattle.zoom_questions.specs.declared.question.Question.{Question}
 use Rattle.zoom_questions.specs.declared.question.MetaSettings.{MetaSettings}
 use Rattle.zoom_pool.specs.Driving.{events_of, IsNumbered}
@@ -230,7 +230,7 @@ search_called (Close ∷ calls) none = search_called calls none
 
 module _ (orderly : (s : Settings) (l : Log) → IsOrderly (past s l))
     (accepting : (s : Settings) (l : Log) (x : Answer) → Contains (past s l).accepted x → IsAccepted s l x)
-    (sets_kept : KeptSets) (shows_laws : ShownLaws) (fits : WhatFits) where
+    (sets_kept : KeptSets) (shows_laws : ShownLaws) (fits : LargestResponses) where
   module _ (databases : List Database) (offers : TargetSettings) (q : Question) (s : MetaSettings)
       (settings : Settings) (log : Log) (d : DriverState) (k : IsDriver (errand_of s q) settings log d)
       (talks : (x : Answer) → IsIn x (past settings log).accepted

@@ -88,7 +88,8 @@ whole_placed (InAttrSet t u p) = on 0 t ∷ on 0 u ∷ placed 1 p
 -- the whole query has this set and this tree
 abbrev pub IsWholeOf : Whole → List ℕ → Tree → Type 0
 IsWholeOf (Bare p) own q = (own ≡ bib1) × IsPhraseOf own [] GeneralTerm p q
-IsWholeOf (InAttrSet t u p) own q = (token_kind t ≡ AttrSet) × (set_of u.text ≡ Some own) × IsPhraseOf own [] GeneralTerm p q
+IsWholeOf (InAttrSet t u p) own q =
+    (token_kind t ≡ AttrSet) × (set_of u.text ≡ Some own) × IsPhraseOf own [] GeneralTerm p q
 
 -- the tokens without their levels
 abbrev pub tokens_in : List PlacedToken → List Token

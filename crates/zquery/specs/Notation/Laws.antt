@@ -35,7 +35,8 @@ OneQuery = (ts : List Token) (q r : RpnQuery) → IsQuery ts q → IsQuery ts r 
 
 -- tokens that stand for a query of height 32 at most are not refused
 abbrev pub NoneRefused : Type 0
-NoneRefused = (len : ℕ) (ts : List Token) (q : RpnQuery) → IsQuery ts q → height q.root ≤ 32 → tokens_fault len ts ≡ None
+NoneRefused = (len : ℕ) (ts : List Token) (q : RpnQuery) → IsQuery ts q → height q.root ≤ 32
+    → tokens_fault len ts ≡ None
 
 -- an error is at the first token with which the tokens stop being the beginning of a query, or at the end
 abbrev pub FirstFault : Type 0
@@ -51,16 +52,17 @@ TooDeepAlone = (len : ℕ) (ts : List Token) (e : PqfError) → tokens_fault len
 pub record OneQueryOrFault : Type 0 where
   pub one_query : (text : List ℕ) (q r : RpnQuery) → IsText text q → IsText text r → q ≡ r
   pub one_fault : (text : List ℕ) (e f : PqfError) → IsTextFault text e → IsTextFault text f → e ≡ f
-  pub either : (text : List ℕ) (q : RpnQuery) (e : PqfError) → IsText text q → height q.root ≤ 32 → IsTextFault text e → ⊥
+  pub either : (text : List ℕ) (q : RpnQuery) (e : PqfError) → IsText text q → height q.root ≤ 32
+      → IsTextFault text e → ⊥
 
 -- the text that is printed for a lawful query stands for this query
-abbrev pub PrintedReads : Type 0
-PrintedReads = (q : RpnQuery) → IsLawfulQuery q → printable q ≡ true → IsText (query_text q) q
+abbrev pub PrintedQueries : Type 0
+PrintedQueries = (q : RpnQuery) → IsLawfulQuery q → printable q ≡ true → IsText (query_text q) q
 
 -- if a text stands for a query of height 32 at most, the query can be printed
-abbrev pub TextPrintable : Type 0
-TextPrintable = (text : List ℕ) (q : RpnQuery) → IsText text q → height q.root ≤ 32 → printable q ≡ true
+abbrev pub PrintableTexts : Type 0
+PrintableTexts = (text : List ℕ) (q : RpnQuery) → IsText text q → height q.root ≤ 32 → printable q ≡ true
 
 -- if a text stands for a query, some element stands for it too
-abbrev pub TextSpellable : Type 0
-TextSpellable = (text : List ℕ) (q : RpnQuery) → IsText text q → (n : Element) × WritesQuery q n
+abbrev pub SpellableTexts : Type 0
+SpellableTexts = (text : List ℕ) (q : RpnQuery) → IsText text q → (n : Element) × WritesQuery q n

@@ -14,9 +14,11 @@ unfoldable pub number_of_text : ℕ → List ℕ → Option ℕ
 number_of_text most text =
     if is_numeral text && nat_le (digits_value 10 text) most then Some (digits_value 10 text) else None
 
+-- the integer that digits with no minus before them write
 abbrev pub positive : ℕ → ℤ
 positive n = pos n
 
+-- the integer that digits with a minus before them write; with a minus, 0 is 0 also
 abbrev pub negative : ℕ → ℤ
 negative n = neg_ℤ (pos n)
 

@@ -24,30 +24,36 @@ escaped b = if (b == 34) || (b == 92) then 92 ∷ b ∷ [] else b ∷ []
 abbrev pub in_quotes : List ℕ → List ℕ
 in_quotes text = 34 ∷ (flat_map escaped text ++ 34 ∷ [])
 
+-- an attribute's own set, in decimal with dots, and a space; nothing where the attribute has none
 abbrev pub set_text : Option (List ℕ) → List ℕ
 set_text None = []
 set_text (Some set) = dotted set ++ codes " "
 
+-- an attribute's value in decimal; a complex value has no text
 abbrev pub value_text : AttrValue → List ℕ
 value_text (Number n) = signed_decimal n
 value_text (Complex e) = []
 
+-- `@attr`, the attribute's own set, then its type and value with an equals sign between them, and a space
 abbrev pub attr_text : Attr → List ℕ
 attr_text a =
     codes "@attr " ++ (set_text a.attr_set
     ++ (signed_decimal a.kind ++ (codes "=" ++ (value_text a.value ++ codes " "))))
 
+-- a term in quotes, behind `@term` and its type unless it is general; a term of any other type has no text
 abbrev pub term_text : TermValue → List ℕ
 term_text (General text) = in_quotes text
 term_text (Numeric n) = codes "@term numeric " ++ in_quotes (signed_decimal n)
 term_text (Text text) = codes "@term string " ++ in_quotes text
 term_text (Other e) = []
 
+-- the word of an operator in the prefix notation, and a space
 abbrev pub operator_text : Operator → List ℕ
 operator_text And = codes "@and "
 operator_text Or = codes "@or "
 operator_text Not = codes "@not "
 
+-- a tree in the prefix notation: attributes before their operand, an operator before its trees; proximity has no text
 abbrev pub tree_text : Tree → List ℕ
 tree_text (OfTerm xs v) = flat_map attr_text xs ++ term_text v
 tree_text (OfSet name) = codes "@set " ++ in_quotes name
@@ -59,6 +65,7 @@ tree_text (OfProx e a b) = []
 abbrev pub opening_text : List ℕ → List ℕ
 opening_text own = if bytes_eq own bib1 then [] else codes "@attrset " ++ (dotted own ++ codes " ")
 
+-- the text that is printed for a query: its set unless this is bib-1, and its tree
 abbrev pub query_text : RpnQuery → List ℕ
 query_text q = opening_text q.attr_set ++ tree_text q.root
 
@@ -67,6 +74,7 @@ abbrev pub is_attr_number : ℤ → Bool
 is_attr_number (pos n) = nat_le n most
 is_attr_number (negsuc n) = false
 
+-- the value has a text: it is a number from 0 to 2147483647, and not complex
 abbrev pub plain_value : AttrValue → Bool
 plain_value (Number n) = is_attr_number n
 plain_value (Complex e) = false
@@ -85,6 +93,7 @@ abbrev pub plain_attrs : List ℕ → List Attr → Bool
 plain_attrs own [] = true
 plain_attrs own (a ∷ xs) = plain_attr own a && (not (list_any (alike a) xs) && plain_attrs own xs)
 
+-- the term has a text: it is general, numeric or a string
 abbrev pub plain_term : TermValue → Bool
 plain_term (Other e) = false
 plain_term _ = true

@@ -78,8 +78,8 @@ NoPrefix (t ∷ ts) = is_prefix (token_kind t) ≡ false
 
 -- The tokens between `old` and `new` are attributes and types of terms. A phrase at `new` and these tokens are a phrase
 -- at `old`, for the same tree.
-pub record ArePrefixes (own : List ℕ) (xs : List Attr) (k : TermKind) (old : List Token) (attrs : List Attr) (k' : TermKind)
-    (new : List Token) : Type 0 where
+pub record ArePrefixes (own : List ℕ) (xs : List Attr) (k : TermKind) (old : List Token) (attrs : List Attr)
+    (k' : TermKind) (new : List Token) : Type 0 where
   pub below : List Attr
   pub forces : attrs ≡ in_force below
   pub wraps : (p : Phrase) (q : Tree) → IsPhraseOf own below k' p q → (p' : Phrase) × IsPhraseOf own xs k p' q

@@ -15,6 +15,7 @@ bib1 = 1 ∷ 2 ∷ 840 ∷ 10003 ∷ 3 ∷ 1 ∷ []
 abbrev pub is_bib1 : List ℕ → Bool
 is_bib1 text = bytes_eq (map to_ascii_lowercase text) (codes "bib-1")
 
+-- the octet is a dot, which stands between the arcs of an object identifier
 abbrev pub is_dot : ℕ → Bool
 is_dot b = b == 46
 
@@ -24,7 +25,9 @@ dotted_numbers text = map (digits_value 10) (slice_split is_dot text)
 
 -- the object identifier whose arcs, in decimal with dots between them, are the text
 unfoldable pub oid_of_text : List ℕ → Option (List ℕ)
-oid_of_text text = if is_oid (dotted_numbers text) && bytes_eq (dotted (dotted_numbers text)) text then Some (dotted_numbers text) else None
+oid_of_text text =
+    if is_oid (dotted_numbers text) && bytes_eq (dotted (dotted_numbers text)) text then Some (dotted_numbers text)
+    else None
 
 -- the set of this name
 unfoldable pub set_of : List ℕ → Option (List ℕ)

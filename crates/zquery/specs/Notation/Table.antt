@@ -72,7 +72,8 @@ after t (Err e) go = Err (error_at t e)
 abbrev pub expected_after : (ℕ → Bool) → List Token → List Expected → Result (List Expected) PqfError
 expected_after deep [] ps = Ok ps
 expected_after deep (t ∷ ts) [] = Err (error_at t kind.Trailing)
-expected_after deep (t ∷ ts) (p ∷ ps) = after t (expected_after_token deep p t) (λ next. expected_after deep ts (next ++ ps))
+expected_after deep (t ∷ ts) (p ∷ ps) =
+    after t (expected_after_token deep p t) (λ next. expected_after deep ts (next ++ ps))
 
 -- What is to come at the first token: `@attrset`, a set and an operand, or an operand.
 abbrev pub first_expected : TokenKind → List Expected

@@ -9,6 +9,7 @@ use Rattle.zquery_rpn.specs.declared.query.TermValue.{TermValue}
 use Rattle.zquery_rpn.specs.declared.query.TermValue.TheVariants.{General, Numeric, Text}
 use Rattle.zquery.specs.Notation.Numbers.{number_of_text, integer_of}
 
+-- the octet is an equals sign, which stands between the type and the value of an attribute
 abbrev pub is_equals : ℕ → Bool
 is_equals b = b == 61
 
@@ -28,7 +29,8 @@ pair_of None o = None
 
 -- the type and the value of an attribute: the numbers before and behind the first equals sign
 unfoldable pub numbers_of : List ℕ → Option (ℕ × ℕ)
-numbers_of text = pair_of (number_of_text most (before_first is_equals text)) (number_of_text most (after_first is_equals text))
+numbers_of text =
+    pair_of (number_of_text most (before_first is_equals text)) (number_of_text most (after_first is_equals text))
 
 -- the type of term of this name
 unfoldable pub term_kind_of : List ℕ → Option TermKind

@@ -126,7 +126,8 @@ fn prefixes(
     ensures ok { IfOk result (λ k. (xs : List Attr) → attrs.old.items ≡ in_force xs
         → ArePrefixes own.now xs kind cursor.old attrs.new.items k cursor.new) }
     ensures expected { IfOk result (λ k. (deep : ℕ → Bool) (n : ℕ) (rest : List Expected)
-        → expected_after deep cursor.old (Operand kind n ∷ rest) ≡ expected_after deep cursor.new (Operand k n ∷ rest)) }
+        → expected_after deep cursor.old (Operand kind n ∷ rest)
+        ≡ expected_after deep cursor.new (Operand k n ∷ rest)) }
     ensures stops { OnOk result (NoPrefix cursor.new) }
     ensures err { (deep : ℕ → Bool) (n : ℕ) (rest : List Expected)
         → IsFaultResult (fault_left end (expected_after deep cursor.old (Operand kind n ∷ rest))) result }
@@ -218,7 +219,8 @@ fn query(
     ensures ok { IfOk result (λ r. (xs : List Attr) → outer.now ≡ in_force xs
         → IsReadPhrase own.now xs kind level cursor.old cursor.new (rpn_tree r)) }
     ensures expected { OnOk result ((rest : List Expected)
-        → expected_after below_limit cursor.old (Operand kind level ∷ rest) ≡ expected_after below_limit cursor.new rest) }
+        → expected_after below_limit cursor.old (Operand kind level ∷ rest)
+        ≡ expected_after below_limit cursor.new rest) }
     ensures err { (rest : List Expected)
         → IsFaultResult (fault_left end (expected_after below_limit cursor.old (Operand kind level ∷ rest))) result }
 {

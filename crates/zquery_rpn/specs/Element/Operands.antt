@@ -18,6 +18,7 @@ values =
     either (integer (context 121)) Number
     (finally (opaque (context 224)) Complex)
 
+-- the kind of an attribute value, with its number or the element that is kept
 abbrev pub value_pick : AttrValue → Pick values
 value_pick (Number n) = inl n
 value_pick (Complex m) = inr m
@@ -30,6 +31,7 @@ pub value-back : (x : Pick values) → value_pick (picked values x) ≡ x
 value-back (inl n) = refl
 value-back (inr m) = refl
 
+-- attributeValue: a number with the tag [121], or a complex value with the tag [224]
 abbrev pub value : Place AttrValue
 value = of_choice values value_pick value-same value-back refl
 
@@ -45,6 +47,7 @@ unfoldable pub attribute_parts : Elements Attr
 attribute_parts =
     of_table attribute_table (λ a b c. record { attr_set = a; kind = b; value = c }) (λ a. refl) (λ x. refl) refl
 
+-- AttributeElement: its components, in an element with the tag of SEQUENCE (universal 16)
 abbrev pub attribute : Place Attr
 attribute = within (universal 16) attribute_parts
 
@@ -65,6 +68,7 @@ terms =
     (either (octets (context 216)) Text
     (finally (kept (context 217) (context 218 ∷ context 219 ∷ context 220 ∷ context 221 ∷ [])) Other)))
 
+-- the kind of a term, with its octets, its number, its string or the element that is kept
 abbrev pub term_pick : TermValue → Pick terms
 term_pick (General xs) = inl xs
 term_pick (Numeric n) = inr (inl n)
@@ -107,12 +111,14 @@ pub data Operand : Type 0 where
   ResultSet : List ℕ → Operand
   ResultAttr : List ℕ × List Attr → Operand
 
+-- the three kinds of Operand, each of which has its own tag: [102], [31] or [214]
 abbrev pub operands : Choice Operand
 operands =
     either (within (context 102) attributes_term_parts) AttrTerm
     (either (octets (context 31)) ResultSet
     (finally (within (context 214) set_attributes_parts) ResultAttr))
 
+-- the kind of an operand, with what an operand of this kind has
 abbrev pub operand_pick : Operand → Pick operands
 operand_pick (AttrTerm p) = inl p
 operand_pick (ResultSet name) = inr (inl name)

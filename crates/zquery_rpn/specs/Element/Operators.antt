@@ -19,9 +19,11 @@ use Rattle.zquery_rpn.specs.declared.operator.Operator.TheVariants.{And, Or, Not
 abbrev pub null_of : Element → Option (Unit {0})
 null_of e = meant (as_null e)
 
+-- NULL with this tag: a primitive element with no contents octets (X.690, 8.8)
 abbrev pub null : AsnTag → Place (Unit {0})
 null tag =
-    lawful_place {P = tagged tag null_of} {tags = tag ∷ []} {meaning = null_of} {spelling = λ x. Some (Primitive tag [])}
+    lawful_place {P = tagged tag null_of} {tags = tag ∷ []} {meaning = null_of}
+    {spelling = λ x. Some (Primitive tag [])}
     (tagged_place tag null_of tt (Primitive tag []) refl refl) (contents_spelled tag null_of (λ x. []) (λ x. refl))
 
 -- Operator: and [0], or [1] and and-not [2], each IMPLICIT NULL, prox [3] IMPLICIT SEQUENCE, which is kept
@@ -32,6 +34,7 @@ joints =
     (either (null (context 2)) (λ x. Logical Not)
     (finally (opaque (context 3)) ProxOperator)))
 
+-- the kind of an operator; of prox also the element that is kept
 abbrev pub joint_pick : Joint → Pick joints
 joint_pick (Logical And) = inl tt
 joint_pick (Logical Or) = inr (inl tt)

@@ -27,7 +27,8 @@ WritesTree (OfSetAttrs name xs) n = op.writes (ResultAttr (name, xs)) n
 WritesTree (Of o a b) n =
     sequence (context 1) (first (WritesTree a) (first (WritesTree b) (required operator.writes (Logical o) ended))) n
 WritesTree (OfProx m a b) n =
-    sequence (context 1) (first (WritesTree a) (first (WritesTree b) (required operator.writes (ProxOperator m) ended))) n
+    sequence (context 1)
+    (first (WritesTree a) (first (WritesTree b) (required operator.writes (ProxOperator m) ended))) n
 
 -- type-1 [1] IMPLICIT RPNQuery: attributeSet OBJECT IDENTIFIER, rpn RPNStructure
 abbrev pub WritesQuery : RpnQuery → Element → Type 0

@@ -96,6 +96,7 @@ two (Some n) (Some m) = Some (n ∷ m ∷ [])
 two (Some n) None = None
 two None m = None
 
+-- the three elements in this order, or none if any of them is missing
 abbrev pub three : Option Element → Option Element → Option Element → Option (List Element)
 three (Some n) (Some m) (Some k) = Some (n ∷ m ∷ k ∷ [])
 three (Some n) (Some m) None = None
@@ -107,8 +108,10 @@ abbrev pub tree_spelling : Tree → Option Element
 tree_spelling (OfTerm xs v) = op.spelling (AttrTerm (xs, v))
 tree_spelling (OfSet name) = op.spelling (ResultSet name)
 tree_spelling (OfSetAttrs name xs) = op.spelling (ResultAttr (name, xs))
-tree_spelling (Of o a b) = around (context 1) (three (tree_spelling a) (tree_spelling b) (operator.spelling (Logical o)))
-tree_spelling (OfProx m a b) = around (context 1) (three (tree_spelling a) (tree_spelling b) (operator.spelling (ProxOperator m)))
+tree_spelling (Of o a b) =
+    around (context 1) (three (tree_spelling a) (tree_spelling b) (operator.spelling (Logical o)))
+tree_spelling (OfProx m a b) =
+    around (context 1) (three (tree_spelling a) (tree_spelling b) (operator.spelling (ProxOperator m)))
 
 -- the element that stands for a query
 abbrev pub query_spelling : RpnQuery → Option Element

@@ -76,16 +76,22 @@ fn exchange_of(
     second: &str,
     list: &'static str,
 ) -> Result<Box<Exchange>, Unread> {
-    let first = octets(alloc, first)?;
-    let second = octets(alloc, second)?;
-    let calls = calls_of(alloc, calls)?;
+    let Ok(first) = octets(alloc, first) else {
+        return Err(Unread);
+    };
+    let Ok(second) = octets(alloc, second) else {
+        return Err(Unread);
+    };
+    let Ok(calls) = calls_of(alloc, calls) else {
+        return Err(Unread);
+    };
     let exchange = Exchange {
         calls,
         first,
         second,
         list,
     };
-    Ok(box_value(alloc, exchange)?)
+    read(box_value(alloc, exchange))
 }
 
 fn long(alloc: Global) -> Result<Box<Exchange>, Unread> {
@@ -121,32 +127,49 @@ fn comes(pool: &mut Pool, c: u32, piece: &[u8], calls: &[Box<Call>]) -> Result<(
         if !accepts(pool, c)? {
             return Ok(());
         }
-        make_due(pool, c, calls)?;
+        if make_due(pool, c, calls).is_err() {
+            return Err(Unread);
+        }
     }
     Ok(())
 }
 
 // The octets between these places come on each connection.
 fn both_come(pool: &mut Pool, exchange: &Exchange, from: usize, to: usize) -> Result<(), Unread> {
-    let first = exchange.first.get(from..to).ok_or(Unread)?;
-    let second = exchange.second.get(from..to).ok_or(Unread)?;
-    comes(pool, 0, first, exchange.calls.as_slice())?;
+    let Some(first) = exchange.first.get(from..to) else {
+        return Err(Unread);
+    };
+    let Some(second) = exchange.second.get(from..to) else {
+        return Err(Unread);
+    };
+    if comes(pool, 0, first, exchange.calls.as_slice()).is_err() {
+        return Err(Unread);
+    }
     comes(pool, 1, second, exchange.calls.as_slice())
 }
 
 fn begin_pool(alloc: Global, exchange: &Exchange) -> Result<Box<Pool>, Unread> {
-    let mut pool = pool(alloc, 2)?;
-    make_due(&mut pool, 0, exchange.calls.as_slice())?;
-    make_due(&mut pool, 1, exchange.calls.as_slice())?;
+    let Ok(mut pool) = pool(alloc, 2) else {
+        return Err(Unread);
+    };
+    if make_due(&mut pool, 0, exchange.calls.as_slice()).is_err()
+        || make_due(&mut pool, 1, exchange.calls.as_slice()).is_err()
+    {
+        return Err(Unread);
+    }
     Ok(pool)
 }
 
 // Whether the list is due where the octets come in pieces with these ends.
 fn is_cut(alloc: Global, exchange: &Exchange, ends: &[usize]) -> Result<bool, Unread> {
-    let mut pool = begin_pool(alloc, exchange)?;
+    let Ok(mut pool) = begin_pool(alloc, exchange) else {
+        return Err(Unread);
+    };
     let mut from = 0usize;
     for to in ends {
-        both_come(&mut pool, exchange, from, *to)?;
+        if both_come(&mut pool, exchange, from, *to).is_err() {
+            return Err(Unread);
+        }
         from = *to;
     }
     Ok(lists(alloc, &pool, "a b", exchange.list))

@@ -27,8 +27,12 @@ struct Turn {
 
 fn turn_of(alloc: Global, row: &str) -> Result<Turn, Unread> {
     let (digits, step) = pair(row);
-    let reply = octets(alloc, digits)?;
-    let call = call(alloc, step)?;
+    let Ok(reply) = octets(alloc, digits) else {
+        return Err(Unread);
+    };
+    let Ok(call) = call(alloc, step) else {
+        return Err(Unread);
+    };
     Ok(Turn { reply, call })
 }
 
@@ -48,7 +52,9 @@ fn makes(pool: &mut Pool, call: &Call) -> Result<bool, Unread> {
 }
 
 fn feeds(pool: &mut Pool, piece: &[u8]) -> Result<bool, Unread> {
-    let fed = feed(pool, 0, piece)?;
+    let Ok(fed) = feed(pool, 0, piece) else {
+        return Err(Unread);
+    };
     Ok(fed.is_ok() || feed(pool, 0, piece)?.is_ok())
 }
 

@@ -5,7 +5,7 @@ use std::alloc::{AllocError, Global};
 use std::process::Abort;
 use std::test::Fail;
 use zber_tests::rows::{is_true, pair, split_row};
-use zber_tests::unread::Unread;
+use zber_tests::unread::{Unread, read};
 use zoom::Pool;
 
 // The words of an origin for an answer of a pool.
@@ -20,18 +20,24 @@ fn as_of_origin(alloc: Global, text: &str) -> Result<String, AllocError> {
 }
 
 fn take(alloc: Global, pool: &mut Pool, digits: &str) -> Result<String, Unread> {
-    feed_row(alloc, pool, 0, digits)?;
-    let answer = answer(alloc, pool, 0, "take -")?;
+    if feed_row(alloc, pool, 0, digits).is_err() {
+        return Err(Unread);
+    }
+    let Ok(answer) = answer(alloc, pool, 0, "take -") else {
+        return Err(Unread);
+    };
     if answer.as_str() == "Stopped" {
-        Ok(String::from_str(alloc, "WrongState")?)
+        read(String::from_str(alloc, "WrongState"))
     } else {
-        Ok(as_of_origin(alloc, answer.as_str())?)
+        read(as_of_origin(alloc, answer.as_str()))
     }
 }
 
 // A call, and what it sends.
 fn call(alloc: Global, pool: &mut Pool, step: &str) -> Result<String, Unread> {
-    let refusal = answer(alloc, pool, 0, step)?;
+    let Ok(refusal) = answer(alloc, pool, 0, step) else {
+        return Err(Unread);
+    };
     if refusal.as_str() == "ok" {
         answer(alloc, pool, 0, "out -")
     } else {
@@ -43,8 +49,10 @@ fn answer_of(alloc: Global, pool: &mut Pool, step: &str) -> Result<String, Unrea
     let (word, row) = pair(step);
     match word {
         "state" => {
-            let state = answer(alloc, pool, 0, step)?;
-            Ok(as_of_origin(alloc, state.as_str())?)
+            let Ok(state) = answer(alloc, pool, 0, step) else {
+                return Err(Unread);
+            };
+            read(as_of_origin(alloc, state.as_str()))
         }
         "take" => take(alloc, pool, row),
         _ => call(alloc, pool, step),
@@ -53,7 +61,9 @@ fn answer_of(alloc: Global, pool: &mut Pool, step: &str) -> Result<String, Unrea
 
 fn goes(alloc: Global, pool: &mut Pool, row: &str) -> Result<bool, Unread> {
     let (step, due) = split_row(row, " = ");
-    let answer = answer_of(alloc, pool, step)?;
+    let Ok(answer) = answer_of(alloc, pool, step) else {
+        return Err(Unread);
+    };
     Ok(is_due(answer.as_str(), due))
 }
 

@@ -1,6 +1,8 @@
 use Rattle.std.proofs.Common.{◌≡◌, ◌∙◌, [], ap, length, refl, sym, subst, rules}
 use Rattle.zoom_pool.specs.Metas.{MetaAfter}
-use Rattle.zoom_tcp.specs.Asking.{is_present}
+use Rattle.zoom_io.specs.TalksAmong.{halves_at}
+use Rattle.zoom_tcp.specs.Connecting.{IsAttempt}
+use Rattle.zoom_tcp.specs.HostLinks.{IsOwnLink}
 use Rattle.zoom_tcp.specs.HostTalks.{AreAllBegun}
 use Rattle.zoom_tcp.proofs.HostTalks.{asked_at_once}
 use Rattle.zoom_tcp.proofs.at_once.ask_at_once_over.Goals as goal
@@ -13,9 +15,13 @@ returns g c =
     c.talk_with_all-talked.ensures.hosts ∙ ap length same ∙ c.in_ok-talks.ensures.size ∙ c.in_ok-attempts.ensures.size
     ∙ c.requires.equal in
     record {
-      asked = asked_at_once _ refl (λ a. refl) c.args.questions.items c.args.settings (is_present c.args.addresses.now)
-          c.in_ok-attempts.attempts.items c.deref_mut.result.now c.talk_with_all-talked.new.talks
-          c.in_ok-meta.meta c.talk_with_all-talked.new.meta after size
+      asked = asked_at_once c.in_ok-attempts.attempts.items c.deref_mut.result.now c.talk_with_all-talked.new.talks _ refl
+          (λ a. refl)
+          (λ name a. IsAttempt g.S.Sockets.AreFound g.S.Sockets.IsOpening g.S.Sockets.IsConnected name a.addresses.items a.stage)
+          (IsOwnLink g.S.Sockets.AreFound g.S.Sockets.IsOpening g.S.Sockets.IsConnected g.S.Sockets.octets)
+          c.args.questions.items c.args.settings (halves_at c.args.addresses.now) c.in_ok-meta.meta
+          c.talk_with_all-talked.new.meta after size
           (subst (λ z. AreAllBegun c.in_ok-attempts.attempts.items z) (sym same) c.in_ok-talks.ensures.begun)
-          c.in_ok-attempts.ensures.named c.in_ok-talked.ensures.talks c.in_ok-talked.ensures.over;
+          c.in_ok-attempts.ensures.named c.in_ok-attempts.ensures.own c.in_ok-talked.ensures.talks
+          c.in_ok-talked.ensures.over;
     }

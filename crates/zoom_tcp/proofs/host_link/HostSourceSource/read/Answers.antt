@@ -12,10 +12,10 @@ loop-init g c = (refl, Keeps-refl _)
 pub loop-preserved : goal.loop-preserved
 loop-preserved g c =
     let same : IsUntouched (record { octets = g.S.Sockets.octets_left c.loop.self.timed.socket.value c.loop.self.cursor; failures = c.loop.self.failures })
-    (record { octets = g.S.Sockets.octets_left c.hear.new.self.timed.socket.value c.hear.new.self.cursor; failures = c.hear.new.self.failures }) =
+    (record { octets = g.S.Sockets.octets_left c.receive.new.self.timed.socket.value c.receive.new.self.cursor; failures = c.receive.new.self.failures }) =
     subst (λ z. AfterPoll {E = Failed} (record { octets = g.S.Sockets.octets_left c.loop.self.timed.socket.value c.loop.self.cursor; failures = c.loop.self.failures })
-    (record { octets = g.S.Sockets.octets_left c.hear.new.self.timed.socket.value c.hear.new.self.cursor; failures = c.hear.new.self.failures })
-    (Ok z) c.hear.new.piece) c.in-None.is c.in_ok-count.ensures.reads in
+    (record { octets = g.S.Sockets.octets_left c.receive.new.self.timed.socket.value c.receive.new.self.cursor; failures = c.receive.new.self.failures })
+    (Ok z) c.receive.new.piece) c.in-None.is c.in_ok-count.ensures.reads in
     (same.failures ∙ c.loop.invariant.0, Keeps-trans _ _ _ c.loop.invariant.1 same.octets)
 
 pub returns-in_err-count-clause-reads : goal.returns-in_err-count-clause-reads
@@ -23,8 +23,8 @@ returns-in_err-count-clause-reads g c =
     let p = err_from_is_err_and c.from_residual.result c.from_residual.ensures.1 in
     subst
     (λ z. AfterRead {E = Failed} (record { octets = g.S.Sockets.octets_left c.args.self.now.timed.socket.value c.args.self.now.cursor; failures = c.args.self.now.failures })
-    (record { octets = g.S.Sockets.octets_left c.hear.new.self.timed.socket.value c.hear.new.self.cursor; failures = c.hear.new.self.failures })
-    z c.hear.new.piece) (sym (p.1 ∙ ap Err p.2))
+    (record { octets = g.S.Sockets.octets_left c.receive.new.self.timed.socket.value c.receive.new.self.cursor; failures = c.receive.new.self.failures })
+    z c.receive.new.piece) (sym (p.1 ∙ ap Err p.2))
     (reads_from (Err c.in_err-count.field-0.0) _ _ _ _ _ _ c.loop.invariant.1 c.loop.invariant.0
     c.in_err-count.ensures.reads)
 
@@ -33,8 +33,8 @@ returns-in-Some-clause-reads g c =
     reads_from (Ok c.in-Some.count) _ _ _ _ _ _ c.loop.invariant.1 c.loop.invariant.0
     (subst
     (λ z. AfterPoll {E = Failed} (record { octets = g.S.Sockets.octets_left c.loop.self.timed.socket.value c.loop.self.cursor; failures = c.loop.self.failures })
-    (record { octets = g.S.Sockets.octets_left c.hear.new.self.timed.socket.value c.hear.new.self.cursor; failures = c.hear.new.self.failures })
-    (Ok z) c.hear.new.piece) c.in-Some.is c.in_ok-count.ensures.reads)
+    (record { octets = g.S.Sockets.octets_left c.receive.new.self.timed.socket.value c.receive.new.self.cursor; failures = c.receive.new.self.failures })
+    (Ok z) c.receive.new.piece) c.in-Some.is c.in_ok-count.ensures.reads)
 
 pub returns-clause-reads : goal.returns-clause-reads
 returns-clause-reads g c = record { octets = c.loop.invariant.1; count = search rules }

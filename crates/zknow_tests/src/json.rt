@@ -1,13 +1,16 @@
-//! Whole texts for saved files of each kind of fact.
-use crate::print_json;
-use std::alloc::{AllocError, Global};
+// Whole texts of JSON for saved files of each kind of fact.
+use crate::saved::{Loaded, load_octets};
+use std::alloc::Global;
+use std::process::Abort;
 use std::test::Fail;
-use zknow::load;
+use zber_tests::rows::spells;
+use zber_tests::unread::Unread;
+use zknow_json::print_json;
 
-/// A saved file, and the lines that are wanted.
+// A saved file, and the lines that are wanted.
 type Vector = (&'static [u8], &'static str);
 
-/// Counts, of which two differ; a search and an association that failed; a record in two sets, and why there is none.
+// Counts, of which two differ; a search and an association that failed; a record in two sets, and why there is none.
 const EXAMPLE: Vector = (
     b"\xa4\x1d\x80\x0ccity library\x80\x06county\x80\x05abbey\xa0\t\x80\x01\x00\x81\x01\x01\x82\x01\x02\
     \xa0\t\x80\x01\x00\x81\x01\x02\x82\x01\x00\xa0\t\x80\x01\x00\x81\x01\x02\x82\x01\x07\xa1\x06\x80\x01\
@@ -33,7 +36,7 @@ const EXAMPLE: Vector = (
     .840.10003.4.1\",\"condition\":238,\"addinfo\":\"\"}\n",
 );
 
-/// Records of each form: octets; other contents; diagnostics in the place of records; a part of a record.
+// Records of each form: octets; other contents; diagnostics in the place of records; a part of a record.
 const RECORDS: Vector = (
     b"\xa4\x03\x80\x01a\xa2 \x80\x01\x00\x81\x01\x01\x82\x01\x010\x15\xa1\x13\xa1\x11(\x0f\x06\x07*\x86H\
     \xce\x13\x05\n\x81\x04\x00\xff\"\\\xa2\x1b\x80\x01\x00\x81\x01\x01\x82\x01\x020\x10\x80\x02db\xa1\n\
@@ -68,7 +71,7 @@ const RECORDS: Vector = (
     A==\"}\n",
 );
 
-/// Several different records at a position, and one at the next.
+// Several different records at a position, and one at the next.
 const CONFLICTS: Vector = (
     b"\xa4\x03\x80\x01a\xa2\x15\x80\x01\x00\x81\x01\x01\x82\x01\x020\n\xa1\x08\xa3\x06\x04\x04part\xa2\x1f\
     \x80\x01\x00\x81\x01\x01\x82\x01\x020\x14\xa1\x12\xa2\x100\x0e\x06\x07*\x86H\xce\x13\x04\x01\x02\x01\
@@ -86,8 +89,8 @@ const CONFLICTS: Vector = (
     10\",\"database\":\"db\",\"octets\":\"b25l\"}\n",
 );
 
-/// Names with each control, with what is not UTF-8, and a target without a name; such a database and such additional
-/// information.
+// Names with each control, with what is not UTF-8, and a target without a name; such a database and such additional
+// information.
 const TEXTS: Vector = (
     b"\xa4<\x80-\x00\x01\x02\x03\x04\x05\x06\x07\x08\t\n\x0b\x0c\r\x0e\x0f\x10\x11\x12\x13\x14\x15\x16\x17\
     \x18\x19\x1a\x1b\x1c\x1d\x1e\x1f\"\\/\x7f\xc3\xa9\xe2\x80\xa8\xf0\x9f\x98\x80\x80\x05caf\xe9 \x80\
@@ -110,7 +113,7 @@ const TEXTS: Vector = (
     wIA=\",\"octets\":\"eA==\"}\n",
 );
 
-/// Diagnostics of a search, of a request for records, of an association, and in another format.
+// Diagnostics of a search, of a request for records, of an association, and in another format.
 const DIAGNOSTICS: Vector = (
     b"\xa4\x06\x80\x01a\x80\x01b\xa3\x19\x80\x01\x00\x81\x01\x01\x82\x01\x000\x0e\x06\x07*\x86H\xce\x13\
     \x04\x01\x02\x01\x01\x1a\x00\xa3\x1d\x80\x01\x00\x81\x01\x01\x82\x01\x000\x12\x06\x07*\x86H\xce\x13\
@@ -130,41 +133,44 @@ const DIAGNOSTICS: Vector = (
     \":\"KAcGAioEgQF4\"}\n",
 );
 
-/// Names, and nothing that is known.
+// Names, and nothing that is known.
 const NOTHING: Vector = (b"\xa4\x06\x80\x01a\x80\x01b", "");
 
-/// Appends the lines of a saved file; says so if the file is none.
-fn put_lines(alloc: Global, file: &[u8], out: &mut Vec<u8>) -> Result<(), AllocError> {
-    match load(alloc, file) {
-        Ok((known, names)) => print_json(alloc, &known, &names, out),
-        Err(_) => out.extend_from_slice(b"no saved file"),
+// The lines of what a file says, behind a text.
+fn lines_of(alloc: Global, loaded: &Loaded, before: &str) -> Result<Vec<u8>, Unread> {
+    let Ok(mut out) = before.as_bytes().to_vec(alloc) else {
+        return Err(Unread);
+    };
+    let Ok((knowledge, names)) = loaded else {
+        return Err(Unread);
+    };
+    match print_json(alloc, knowledge, names, &mut out) {
+        Ok(()) => Ok(out),
+        Err(_) => Err(Unread),
     }
 }
 
-/// Each file gives its lines.
+// Whether these lines of a file are appended to a text.
+fn has_lines(alloc: Global, file: &[u8], before: &str, due: &str) -> bool {
+    match (load_octets(alloc, file), format!(in alloc; "{before}{due}")) {
+        (Ok(loaded), Ok(due)) => spells(lines_of(alloc, &loaded, before), due.as_bytes()),
+        _ => false,
+    }
+}
+
+// Each file gives its lines.
 #[test]
 fn whole_texts(rt: HostRuntime) -> Result<(), Fail> {
-    for (file, wanted) in [EXAMPLE, RECORDS, CONFLICTS, TEXTS, DIAGNOSTICS, NOTHING] {
-        let mut out = Vec::new(rt.alloc());
-        put_lines(rt.alloc(), file, &mut out)?;
-        assert_eq!(rt;
-            str::from_utf8(out.as_slice()).unwrap_or("not UTF-8"),
-            wanted
-        );
+    for (file, due) in [EXAMPLE, RECORDS, CONFLICTS, TEXTS, DIAGNOSTICS, NOTHING] {
+        assert!(rt; has_lines(rt.alloc(), file, "", due), "{due}");
     }
     Ok(())
 }
 
-/// The lines stand behind what is there.
+// The lines stand behind what is there.
 #[test]
 fn lines_are_appended(rt: HostRuntime) -> Result<(), Fail> {
-    let (file, wanted) = EXAMPLE;
-    let mut out = Vec::new(rt.alloc());
-    out.extend_from_slice(b"before")?;
-    put_lines(rt.alloc(), file, &mut out)?;
-    let mut whole = Vec::new(rt.alloc());
-    whole.extend_from_slice(b"before")?;
-    whole.extend_from_slice(wanted.as_bytes())?;
-    assert_eq!(rt; out.as_slice(), whole.as_slice());
+    let (file, due) = EXAMPLE;
+    assert!(rt; has_lines(rt.alloc(), file, "before", due));
     Ok(())
 }

@@ -1,27 +1,61 @@
-//! What no clause says: vectors from outside, records of a server, and records that are damaged.
-use crate::{Charset, Format, find_year, put_brief, put_text};
+// Lines of records in MARC: vectors from outside, records of a server, and records that are damaged.
 use std::alloc::{AllocError, Global};
+use std::process::Abort;
 use std::test::Fail;
+use zber_tests::rows::tells;
+use zmarc::{Charset, Format, find_year, put_brief, put_text};
 
-/// A record, how it is read, and the line that is wanted.
+// A record, how it is read, and the line that is wanted.
 type Vector = (&'static [u8], Format, &'static str);
 
-/// The year and the line of a record, with a space between them where it has both.
-fn line_of(alloc: Global, octets: &[u8], format: Format) -> Result<String, AllocError> {
-    let mut brief = String::new(alloc);
-    let mut line = String::new(alloc);
-    if put_brief(alloc, octets, format, &mut brief)? {
-        let year = find_year(alloc, octets, format)?.unwrap_or(b"");
-        put_text(alloc, Charset::Ascii, year, &mut line)?;
+// A line that is appended to a text, and whether there was a record.
+fn brief_behind(
+    alloc: Global,
+    text: &str,
+    octets: &[u8],
+    format: Format,
+) -> Result<(String, bool), AllocError> {
+    let Ok(mut line) = String::from_str(alloc, text) else {
+        return Err(AllocError);
+    };
+    match put_brief(alloc, octets, format, &mut line) {
+        Ok(is) => Ok((line, is)),
+        Err(error) => Err(error),
     }
-    if !line.is_empty() && !brief.is_empty() {
-        line.push(' ')?;
-    }
-    line.push_str(brief.as_str())?;
-    Ok(line)
 }
 
-/// Records of the test server of YAZ; the last one has an ISBN.
+// The year of a record, and nothing where it has none.
+fn year_of(alloc: Global, octets: &[u8], format: Format) -> Result<String, AllocError> {
+    let Ok(year) = find_year(alloc, octets, format) else {
+        return Err(AllocError);
+    };
+    let mut line = String::new(alloc);
+    match put_text(alloc, Charset::Ascii, year.unwrap_or(b""), &mut line) {
+        Ok(()) => Ok(line),
+        Err(error) => Err(error),
+    }
+}
+
+// The year and the line of a record, with a space between them where it has both.
+fn line_of(alloc: Global, octets: &[u8], format: Format) -> Result<String, AllocError> {
+    let Ok((brief, is)) = brief_behind(alloc, "", octets, format) else {
+        return Err(AllocError);
+    };
+    if !is {
+        return Ok(brief);
+    }
+    let Ok(year) = year_of(alloc, octets, format) else {
+        return Err(AllocError);
+    };
+    let space = if year.is_empty() || brief.is_empty() {
+        ""
+    } else {
+        " "
+    };
+    format!(in alloc; "{year}{space}{brief}")
+}
+
+// Records of the test server of YAZ; the last one has an ISBN.
 const RECORDS_OF_A_SERVER: [Vector; 3] = [
     (
         b"00366nam  22001698a 4500001001300000003000400013005001700017008004100034010001700179040001300075\
@@ -66,7 +100,7 @@ const RECORDS_OF_A_SERVER: [Vector; 3] = [
     ),
 ];
 
-/// UTF-8 that is declared; octets that are none; UNIMARC, declared in 100 `$a`.
+// UTF-8 that is declared; octets that are none; UNIMARC, declared in 100 `$a`.
 const UTF8: [Vector; 3] = [
     (
         b"00224nam a22000731a 4500020003500000245006500035260002800100264002200128\x1e  \x1fa978-5-17-0000\
@@ -92,8 +126,8 @@ const UTF8: [Vector; 3] = [
     ),
 ];
 
-/// Cyrillic, Greek and Hebrew in UTF-8 that no record declares; the last record has an octet that is no UTF-8, so all
-/// of it is in MARC-8.
+// Cyrillic, Greek and Hebrew in UTF-8 that no record declares; the last record has an octet that is no UTF-8, so all
+// of it is in MARC-8.
 const UNDECLARED_UTF8: [Vector; 4] = [
     (
         b"00086nam  22000371a 4500245004800000\x1e10\x1fa\xd0\x92\xd0\xbe\xd0\xb9\xd0\xbd\xd0\xb0 \xd0\xb8 \
@@ -122,8 +156,8 @@ const UNDECLARED_UTF8: [Vector; 4] = [
     ),
 ];
 
-/// MARC-8. What is expected is what `yaz-iconv -f marc8 -t utf-8` makes of the octets, composed by Python. Octets that
-/// mean nothing, another set, a mark without its letter; other sets of UNIMARC.
+// MARC-8. What is expected is what `yaz-iconv -f marc8 -t utf-8` makes of the octets, composed by Python. Octets that
+// mean nothing, another set, a mark without its letter; other sets of UNIMARC.
 const MARC8: [Vector; 3] = [
     (
         b"00092nam  22000371a 4500245005400000\x1e10\x1fa\xe2e \xe1a \xe8o \xf0c \xe3i \xa1\xb1 \xa2\xb2 \
@@ -146,7 +180,7 @@ const MARC8: [Vector; 3] = [
     ),
 ];
 
-/// Characters that a terminal would obey, or that nobody sees; joiners stand; marks for sorting are left out.
+// Characters that a terminal would obey, or that nobody sees; joiners stand; marks for sorting are left out.
 const CONTROLS: [Vector; 7] = [
     (
         b"00072nam a22000371a 4500245003400000\x1e10\x1fa\x1b[31mred\x07\x7f\xc2\x85\xe2\x80\xae\xe2\x81\
@@ -187,7 +221,7 @@ const CONTROLS: [Vector; 7] = [
     ),
 ];
 
-/// ISBNs of several fields: cancelled, no number, behind a space, none; then those that give it. None gives any.
+// ISBNs of several fields: cancelled, no number, behind a space, none; then those that give it. None gives any.
 const ISBNS: [Vector; 3] = [
     (
         b"00214nam  22001091a 4500020001500000020001400015020001600029020000600045020002900051020001500080\
@@ -209,7 +243,7 @@ const ISBNS: [Vector; 3] = [
     ),
 ];
 
-/// Years of 264, 260 `$c`, 260 `$g` and 008, also of a later field; UNIMARC.
+// Years of 264, 260 `$c`, 260 `$g` and 008, also of a later field; UNIMARC.
 const YEARS: [Vector; 7] = [
     (
         b"00120nam  22000731a 4500008001600000245000900016260001200025264000900037\x1e910710s1990    \x1e1\
@@ -254,8 +288,8 @@ const YEARS: [Vector; 7] = [
     ),
 ];
 
-/// A wrong length of the record; entries that tell of no field; other sizes of entries; a directory that is cut off;
-/// no terminators; a terminator amid the directory.
+// A wrong length of the record; entries that tell of no field; other sizes of entries; a directory that is cut off;
+// no terminators; a terminator amid the directory.
 const DAMAGED: [Vector; 7] = [
     (
         b"00012nam  22000611a 4500100001400000245001000014260000900024\x1e1 \x1faSmith, A.\x1e10\x1faTitle\
@@ -301,7 +335,7 @@ const DAMAGED: [Vector; 7] = [
     ),
 ];
 
-/// Each record of a table gives its line.
+// Each record of a table gives its line.
 #[test]
 fn lines(rt: HostRuntime) -> Result<(), Fail> {
     for table in [
@@ -314,63 +348,51 @@ fn lines(rt: HostRuntime) -> Result<(), Fail> {
         YEARS.as_slice(),
         DAMAGED.as_slice(),
     ] {
-        for (octets, format, wanted) in table {
-            let line = line_of(rt.alloc(), octets, *format)?;
-            assert_eq!(rt; line.as_str(), *wanted);
+        for (octets, format, due) in table {
+            assert!(rt; tells(line_of(rt.alloc(), octets, *format), due), "{due}");
         }
     }
     Ok(())
 }
 
-/// Octets that are no record: nothing is appended.
-#[test]
-fn no_records(rt: HostRuntime) -> Result<(), Fail> {
-    let mut line_1 = String::from_str(rt.alloc(), "x")?;
-    let read_1 = put_brief(rt.alloc(), b"", Format::Marc21, &mut line_1)?;
-    assert!(rt; !read_1);
-    assert_eq!(rt; line_1.as_str(), "x");
-    let mut line_2 = String::from_str(rt.alloc(), "x")?;
-    let read_2 = put_brief(
-        rt.alloc(),
-        b"00366nam  22001698a 450",
-        Format::Unimarc,
-        &mut line_2,
-    )?;
-    assert!(rt; !read_2);
-    assert_eq!(rt; line_2.as_str(), "x");
-    let mut line_3 = String::from_str(rt.alloc(), "x")?;
-    let read_3 = put_brief(
-        rt.alloc(),
-        b"00366nam  22x01698a 4500                                    ",
-        Format::Marc21,
-        &mut line_3,
-    )?;
-    assert!(rt; !read_3);
-    assert_eq!(rt; line_3.as_str(), "x");
-    let mut line_4 = String::from_str(rt.alloc(), "x")?;
-    let read_4 = put_brief(
-        rt.alloc(),
-        b"00366nam  2299999 a 4500                                    ",
-        Format::Unimarc,
-        &mut line_4,
-    )?;
-    assert!(rt; !read_4);
-    assert_eq!(rt; line_4.as_str(), "x");
-    Ok(())
+// Whether this is appended to a letter, and a record is found or not.
+fn appends(alloc: Global, octets: &[u8], format: Format, due: &str, found: bool) -> bool {
+    match brief_behind(alloc, "x", octets, format) {
+        Ok((line, is)) => line.as_str() == due && is == found,
+        Err(_) => false,
+    }
 }
 
-/// A record is appended to what is there, and told to be one.
-#[test]
-fn appended(rt: HostRuntime) -> Result<(), Fail> {
-    let mut line = String::from_str(rt.alloc(), "x")?;
-    let read = put_brief(
-        rt.alloc(),
+// Octets, four of which are no record, what stands behind a letter then, and whether there was a record.
+const APPENDED: [(&[u8], Format, &str, bool); 5] = [
+    (b"", Format::Marc21, "x", false),
+    (b"00366nam  22001698a 450", Format::Unimarc, "x", false),
+    (
+        b"00366nam  22x01698a 4500                                    ",
+        Format::Marc21,
+        "x",
+        false,
+    ),
+    (
+        b"00366nam  2299999 a 4500                                    ",
+        Format::Unimarc,
+        "x",
+        false,
+    ),
+    (
         b"00095nam  22000611a 4500100001400000245001000014260000900024\
           \x1e1 \x1faSmith, A.\x1e10\x1faTitle\x1e  \x1fc1999\x1e\x1d",
         Format::Marc21,
-        &mut line,
-    )?;
-    assert!(rt; read);
-    assert_eq!(rt; line.as_str(), "xTitle / Smith, A.");
+        "xTitle / Smith, A.",
+        true,
+    ),
+];
+
+// A record is appended to what is there, and told to be one; nothing is appended for octets that are none.
+#[test]
+fn appended(rt: HostRuntime) -> Result<(), Fail> {
+    for (octets, format, due, found) in APPENDED {
+        assert!(rt; appends(rt.alloc(), octets, format, due, found), "{due}");
+    }
     Ok(())
 }

@@ -1,13 +1,16 @@
-//! Whole views, worked out by hand from saved files that an encoder of another kind wrote.
-use crate::print_titles;
-use std::alloc::{AllocError, Global};
+// Whole views, worked out by hand from saved files that an encoder of another kind wrote.
+use crate::saved::{Loaded, load_octets};
+use std::alloc::Global;
+use std::process::Abort;
 use std::test::Fail;
-use zknow::load;
+use zber_tests::rows::spells;
+use zber_tests::unread::Unread;
+use zknow_titles::print_titles;
 
-/// A saved file, and the view that is wanted.
+// A saved file, and the view that is wanted.
 type Vector = (&'static [u8], &'static str);
 
-/// Three catalogues: one has records, of which two differ and one is not shown; two refuse. A fourth has a record.
+// Three catalogues: one has records, of which two differ and one is not shown; two refuse. A fourth has a record.
 const EXAMPLE: Vector = (
     b"\xa4*\x80\x0ccity library\x80\x06county\x80\x05abbey\x80\x0bold library\xa0\x09\x80\x01\x00\x81\x01\
     \x01\x82\x01\x18\xa1\x06\x80\x01\x01\x81\x01\x01\xa1\x06\x80\x01\x02\x81\x01\x00\xa2\x81\xa6\x80\x01\
@@ -36,7 +39,7 @@ const EXAMPLE: Vector = (
     \x20 3  city library        not shown: 238 Record not available in requested syntax\n",
 );
 
-/// Records of each syntax, and what is none: text with controls, in two pieces, and long; MARC without a title.
+// Records of each syntax, and what is none: text with controls, in two pieces, and long; MARC without a title.
 const SYNTAXES: Vector = (
     b"\xa4\x03\x80\x01a\xa2I\x80\x01\x00\x81\x01\x01\x82\x01\x010>\xa1<\xa1:(8\x06\x07*\x86H\xce\x13\x05e\
     \xa0-\x1b+  Title:\n  Dune \x1b[2J\x0d\n\nAuthor: F. Herbert\n \xa2\"\x80\x01\x00\x81\x01\x01\x82\
@@ -80,7 +83,7 @@ const SYNTAXES: Vector = (
     \x20 15  a        no record, 5 octets\n",
 );
 
-/// Names that are too wide, also of wide characters, that have controls, and that fit; no name.
+// Names that are too wide, also of wide characters, that have controls, and that fit; no name.
 const NAMES: Vector = (
     b"\xa4r\x80\x1fthe library of a very long name\x80*\xe5\x9b\xbd\xe7\xab\x8b\xe5\x9b\xbd\xe4\xbc\x9a\
     \xe5\x9b\xb3\xe6\x9b\xb8\xe9\xa4\xa8\xe5\x9b\xbd\xe7\xab\x8b\xe5\x9b\xbd\xe4\xbc\x9a\xe5\x9b\xb3\xe6\
@@ -103,7 +106,7 @@ const NAMES: Vector = (
     \x20 1  #4 set 2                        XML, 1 octets\n",
 );
 
-/// Two counts; diagnostics of a search and of requests, of other sets, in another format, and of no known number.
+// Two counts; diagnostics of a search and of requests, of other sets, in another format, and of no known number.
 const DIAGNOSTICS: Vector = (
     b"\xa4\x0c\x80\x01a\x80\x01b\x80\x01c\x80\x01d\xa0\x09\x80\x01\x00\x81\x01\x01\x82\x01\x18\xa0\x09\x80\
     \x01\x00\x81\x01\x01\x82\x01\x19\xa1\x06\x80\x01\x01\x81\x01\x01\xa1\x06\x80\x01\x03\x81\x01\x00\xa3\
@@ -121,38 +124,44 @@ const DIAGNOSTICS: Vector = (
     d: association refused: 1014 Init/AC: Authentication System error\n",
 );
 
-/// Names, and nothing that is known.
+// Names, and nothing that is known.
 const NOTHING: Vector = (b"\xa4\x06\x80\x01a\x80\x01b", "");
 
-/// Appends the view of a saved file, nothing if the file is none.
-fn put_view(alloc: Global, file: &[u8], out: &mut Vec<u8>) -> Result<(), AllocError> {
-    match load(alloc, file) {
-        Ok((known, names)) => print_titles(alloc, &known, &names, out),
-        Err(_) => Ok(()),
+// The view of what a file says, behind a text.
+fn view_of(alloc: Global, loaded: &Loaded, before: &str) -> Result<Vec<u8>, Unread> {
+    let Ok(mut out) = before.as_bytes().to_vec(alloc) else {
+        return Err(Unread);
+    };
+    let Ok((knowledge, names)) = loaded else {
+        return Err(Unread);
+    };
+    match print_titles(alloc, knowledge, names, &mut out) {
+        Ok(()) => Ok(out),
+        Err(_) => Err(Unread),
     }
 }
 
-/// Each file gives its view, behind what is there.
+// Whether this view of a file is appended to a text.
+fn has_view(alloc: Global, file: &[u8], before: &str, due: &str) -> bool {
+    match (load_octets(alloc, file), format!(in alloc; "{before}{due}")) {
+        (Ok(loaded), Ok(due)) => spells(view_of(alloc, &loaded, before), due.as_bytes()),
+        _ => false,
+    }
+}
+
+// Each file gives its view.
 #[test]
 fn views(rt: HostRuntime) -> Result<(), Fail> {
-    for (file, wanted) in [EXAMPLE, SYNTAXES, NAMES, DIAGNOSTICS] {
-        let mut out = Vec::new(rt.alloc());
-        put_view(rt.alloc(), file, &mut out)?;
-        assert_eq!(rt;
-            str::from_utf8(out.as_slice()).unwrap_or("not UTF-8"),
-            wanted
-        );
+    for (file, due) in [EXAMPLE, SYNTAXES, NAMES, DIAGNOSTICS] {
+        assert!(rt; has_view(rt.alloc(), file, "", due), "{due}");
     }
     Ok(())
 }
 
-/// Where nothing is known nothing is printed.
+// Where nothing is known nothing is printed.
 #[test]
 fn nothing_known(rt: HostRuntime) -> Result<(), Fail> {
-    let (file, wanted) = NOTHING;
-    let mut out = Vec::new(rt.alloc());
-    out.extend_from_slice(b"before")?;
-    put_view(rt.alloc(), file, &mut out)?;
-    assert_eq!(rt; out.len(), 6 + wanted.len());
+    let (file, due) = NOTHING;
+    assert!(rt; has_view(rt.alloc(), file, "before", due));
     Ok(())
 }

@@ -1,0 +1,244 @@
+-- Hosts in memory: whose octets come over the link of a connection, and what is read of them.
+use Rattle.std.proofs.Common.{◌≡◌, ◌⊎◌, ◌∙◌, inl, inr, ⊎_elim, ℕ, zero, suc, ◌+◌, ◌<◌, ◌==◌, Bool, true, false, cond, List, [], ◌∷◌, ◌++◌, length, slice_get, bytes_eq, Option, None, Some, option_map, option_and_then, is_some, refl, sym, ap, subst, add-one, arith}
+use Rattle.std.proofs.lemmas.Bool.Decides.{nat_tests}
+use Rattle.std.proofs.lemmas.List.{map-append}
+use Rattle.std.proofs.lemmas.List.Elements.{filter-append}
+use Rattle.std.proofs.lemmas.Slice.Eq.{bytes_eq-Decides}
+use Rattle.std.specs.Io.KnownBytes.{Consumes}
+use Rattle.zorigin.specs.Standings.{Call}
+use Rattle.zoom.specs.Asking.{KnownOctets, CameFirst, Opening, unreached, begun, unsent, WholeTalk, ended_itself, stopped_for_reason as was_stopped, WholeTalkIf, IsConnectionAsked, IsConnectionAskedIf, IsAskedOver}
+use Rattle.zoom.specs.History.{History, events_on}
+use Rattle.zoom.specs.HostLinks.{IsOwnLink}
+use Rattle.zoom.specs.Metas.{call_events}
+use Rattle.zoom.specs.TalkTraces.{Stage, TalkTrace, beginning, due_sent, message_taken, none_taken, stop_taken, piece_read, input_end}
+use Rattle.zoom.specs.Transcripts.{Event, Called, Fed, Took, InputEnded, HandedOut, Stopped, fed}
+use Rattle.zvectors.specs.Known.{numbers_below, is_named, sent_from, AreAllNamed, IsSocketOf, IsTaken, IsSentTo, IsFrontSent, IsOwnRead, AreOwnRead}
+
+-- ---- the octets that a connection was fed
+
+same_number : (c : ℕ) → (c == c) ≡ true
+same_number c = grind (arith, nat_tests)
+
+only_same : (c : ℕ) (event : Event) (h : History) → events_on c ((c, event) ∷ h) ≡ event ∷ events_on c h
+only_same c event h = rw (same_number c) refl
+
+only_append : (c : ℕ) (more h : History) → events_on c (more ++ h) ≡ events_on c more ++ events_on c h
+only_append c more h = simp (filter-append, map-append)
+
+-- Calls feed nothing.
+fed_calls : (c : ℕ) (calls : List Call) (h : History)
+    → fed (events_on c (call_events c calls ++ h)) ≡ fed (events_on c h)
+fed_calls c [] h = refl
+fed_calls c (call ∷ calls) h = ap fed (only_same c (Called call) (call_events c calls ++ h)) ∙ fed_calls c calls h
+
+none_fed : (c : ℕ) (calls : List Call) → fed (events_on c (call_events c calls)) ≡ []
+none_fed c [] = refl
+none_fed c (call ∷ calls) = ap fed (only_same c (Called call) (call_events c calls)) ∙ none_fed c calls
+
+-- A talk fed what it read.
+fed_talk : {q : _} {s : _} {c : ℕ} {h more : History} {read written : List ℕ} {n : ℕ} {stage : Stage}
+    → TalkTrace q s c h more read written n stage → fed (events_on c more) ≡ read
+fed_talk beginning = refl
+fed_talk {c = c} (due_sent {more = more} calls octets f idle all) =
+    ap fed (only_same c (HandedOut octets) (call_events c calls ++ more)) ∙ fed_calls c calls more ∙ fed_talk f
+fed_talk {c = c} (message_taken {more = more} step f next is) = ap fed (only_same c Took more) ∙ fed_talk f
+fed_talk {c = c} (none_taken {more = more} f next) = ap fed (only_same c Took more) ∙ fed_talk f
+fed_talk {c = c} (stop_taken {more = more} f) = ap fed (only_same c Took more) ∙ fed_talk f
+fed_talk {c = c} (piece_read {more = more} piece f some few) =
+    ap fed (only_same c (Fed piece) more) ∙ ap (λ z. z ++ piece) (fed_talk f)
+fed_talk {c = c} (input_end {more = more} f) =
+    ap fed (only_same c Took ((c, InputEnded) ∷ more)) ∙ ap fed (only_same c InputEnded more) ∙ fed_talk f
+
+-- What a whole talk fed came first.
+fed_whole : {q : _} {s : _} {at_once : Bool} {came : KnownOctets} {c : ℕ} {h more : History}
+    → WholeTalk q s at_once came c h more → CameFirst came (fed (events_on c more))
+fed_whole {came = came} (ended_itself f first over) = subst (CameFirst came) (sym (fed_talk f)) first
+fed_whole {came = came} {c = c} (was_stopped {more = more} reason f first for cut) =
+    subst (CameFirst came) (sym (ap fed (only_same c (Stopped reason) more) ∙ fed_talk f)) first
+
+-- Opening a connection feeds nothing.
+fed_opening : {IsOwn : KnownOctets → Type 0} {q : _} {s : _} {c : ℕ} {h more : History} {link : Option KnownOctets}
+    → Opening IsOwn q s c h more link → fed (events_on c more) ≡ []
+fed_opening {c = c} unreached = ap fed (only_same c _ [])
+fed_opening {c = c} (begun came calls octets own idle all) =
+    ap fed (only_same c (HandedOut octets) (call_events c calls)) ∙ none_fed c calls
+fed_opening {c = c} (unsent came calls octets own idle all) =
+    ap fed (only_same c _ ((c, HandedOut octets) ∷ call_events c calls))
+    ∙ ap fed (only_same c (HandedOut octets) (call_events c calls)) ∙ none_fed c calls
+
+-- What is fed after nothing.
+fed_behind : (more before : List Event) → fed before ≡ [] → fed (more ++ before) ≡ fed more
+fed_behind [] before none = none
+fed_behind (Called call ∷ more) before none = fed_behind more before none
+fed_behind (Fed piece ∷ more) before none = ap (λ z. z ++ piece) (fed_behind more before none)
+fed_behind (Took ∷ more) before none = fed_behind more before none
+fed_behind (InputEnded ∷ more) before none = fed_behind more before none
+fed_behind (HandedOut octets ∷ more) before none = fed_behind more before none
+fed_behind (Stopped reason ∷ more) before none = fed_behind more before none
+
+-- ---- a connection was fed what came first over a link of its own, or nothing
+
+abbrev IsFedOver : (KnownOctets → Type 0) → List ℕ → Type 0
+IsFedOver IsOwn read = (read ≡ []) ⊎ ((came : KnownOctets) × IsOwn came × CameFirst came read)
+
+fed_over : {IsOwn : KnownOctets → Type 0} {q : _} {s : _} {c : ℕ} {h opened : History} {link : Option KnownOctets}
+    (at_once : Bool) (more : History) → Opening IsOwn q s c h opened link
+    → WholeTalkIf q s at_once c opened link more → IsFedOver IsOwn (fed (events_on c more))
+fed_over {c = c} at_once more unreached none = inl (ap (λ z. fed (events_on c z)) none)
+fed_over at_once more (begun came calls octets own idle all) talked = inr (came, own, fed_whole talked)
+fed_over {c = c} at_once more (unsent came calls octets own idle all) none =
+    inl (ap (λ z. fed (events_on c z)) none)
+
+fed_asked : (IsOwn : KnownOctets → Type 0) {q : _} {s : _} {at_once : Bool} {c : ℕ} {h : History}
+    → IsConnectionAsked IsOwn q s at_once c h → IsFedOver IsOwn (fed (events_on c h))
+fed_asked IsOwn {at_once = at_once} {c = c} t =
+    subst (IsFedOver IsOwn)
+    (sym (ap fed (t.mine ∙ only_append c t.more t.opened)
+    ∙ fed_behind (events_on c t.more) (events_on c t.opened) (fed_opening t.opening)))
+    (fed_over at_once t.more t.opening t.talked)
+
+-- ---- what is a link of its own for one reason is one for another
+
+opening_for : {IsOwn IsIts : KnownOctets → Type 0} {q : _} {s : _} {c : ℕ} {h more : History}
+    {link : Option KnownOctets} → ((came : KnownOctets) → IsOwn came → IsIts came) → Opening IsOwn q s c h more link
+    → Opening IsIts q s c h more link
+opening_for f unreached = unreached
+opening_for f (begun came calls octets own idle all) = begun came calls octets (f came own) idle all
+opening_for f (unsent came calls octets own idle all) = unsent came calls octets (f came own) idle all
+
+asked_for : (IsOwn IsIts : KnownOctets → Type 0) (chosen : Bool) (q : _) (s : _) (at_once : Bool) (c : ℕ) (h : History)
+    → ((came : KnownOctets) → IsOwn came → IsIts came) → IsConnectionAskedIf IsOwn chosen q s at_once c h
+    → IsConnectionAskedIf IsIts chosen q s at_once c h
+asked_for IsOwn IsIts true q s at_once c h f t = record {
+  opened = t.opened;
+  link = t.link;
+  opening = opening_for f t.opening;
+  more = t.more;
+  talked = t.talked;
+  mine = t.mine;
+  over = t.over;
+}
+asked_for IsOwn IsIts false q s at_once c h f t = t
+
+-- ---- numbers that pass a test
+
+some_same : {A : Type 0} (x y : A) → Some x ≡ Some y → x ≡ y
+some_same x y is = cc
+
+entry_in : (xs ys : List ℕ) (k a : ℕ) → slice_get (xs ++ ys) k ≡ Some a
+    → ((j : ℕ) × (slice_get xs j ≡ Some a)) ⊎ ((j : ℕ) × (slice_get ys j ≡ Some a))
+entry_in [] ys k a is = inr (k, is)
+entry_in (x ∷ xs) ys zero a is = inl (zero, is)
+entry_in (x ∷ xs) ys (suc k) a is = ⊎_elim (λ l. inl (suc l.0, l.1)) (λ r. inr r) (entry_in xs ys k a is)
+
+last_passes : (test : ℕ → Bool) (n : ℕ) (b : Bool) → test n ≡ b → (k a : ℕ)
+    → slice_get (cond b (n ∷ []) []) k ≡ Some a → test a ≡ true
+last_passes test n true e zero a is = subst (λ z. test z ≡ true) (some_same n a is) e
+last_passes test n true e (suc k) a is = absurd cc
+last_passes test n false e k a is = absurd cc
+
+passes : (test : ℕ → Bool) (n k a : ℕ) → slice_get (numbers_below test n) k ≡ Some a → test a ≡ true
+passes test zero k a is = absurd cc
+passes test (suc n) k a is =
+    ⊎_elim (λ l. passes test n l.0 a l.1) (λ r. last_passes test n (test n) refl r.0 a r.1)
+    (entry_in (numbers_below test n) (cond (test n) (n ∷ []) []) k a is)
+
+numbers_more : (test : ℕ → Bool) (n : ℕ)
+    → numbers_below test (n + 1) ≡ numbers_below test n ++ cond (test n) (n ∷ []) []
+numbers_more test n = rw (add-one n) refl
+
+-- ---- a table of addresses
+
+-- One address more.
+pub named_more : {Place : Type 0} (places : List Place) (name_of : Place → List ℕ) (name : List ℕ) (n : ℕ)
+    (place : Place) (has b : Bool) (found more : List ℕ) → slice_get places n ≡ Some place
+    → has ≡ bytes_eq (name_of place) name → has ≡ b
+    → found ≡ numbers_below (λ i. is_named name_of name (slice_get places i)) n → more ≡ found ++ cond b (n ∷ []) []
+    → more ≡ numbers_below (λ i. is_named name_of name (slice_get places i)) (n + 1)
+named_more places name_of name n place has b found more there tests is before pushed =
+    pushed ∙ ap (λ z. z ++ cond b (n ∷ []) []) before
+    ∙ ap (λ z. numbers_below (λ i. is_named name_of name (slice_get places i)) n ++ cond z (n ∷ []) [])
+    (sym is ∙ tests ∙ sym (ap (is_named name_of name) there))
+    ∙ sym (numbers_more (λ i. is_named name_of name (slice_get places i)) n)
+
+named_place : {Place : Type 0} (name_of : Place → List ℕ) (name : List ℕ) (x : Option Place)
+    → is_named name_of name x ≡ true → (place : Place) × (x ≡ Some place) × (name_of place ≡ name)
+named_place name_of name None is = absurd cc
+named_place name_of name (Some place) is = (place, refl, (bytes_eq-Decides (name_of place) name).0 is)
+
+some_sent : (sent : KnownOctets) → is_some sent ≡ true → (octets : List ℕ) × (sent ≡ Some octets)
+some_sent None is = absurd cc
+some_sent (Some octets) is = (octets, refl)
+
+socket_is : (address : ℕ) (sent : KnownOctets) (socket : ℕ) → Some socket ≡ option_map (λ octets. address) sent
+    → socket ≡ address
+socket_is address None socket is = absurd cc
+socket_is address (Some octets) socket is = some_same socket address is
+
+-- A front of the octets that are known.
+cut : (octets : List ℕ) (left : KnownOctets) (read : List ℕ) → Consumes (Some octets) left read
+    → (rest : List ℕ) × (octets ≡ read ++ rest)
+cut octets None read first = absurd first
+cut octets (Some rest) read first = (rest, first)
+
+module _ {Place : Type 0} (places : List Place) (name_of : Place → List ℕ) (sends : Place → Option (List ℕ)) where
+  -- The link of a connection's own has all octets of an address of its name.
+  own_sent : (name : Option (List ℕ)) (came : KnownOctets)
+      → IsOwnLink (AreAllNamed places name_of sends) (IsSocketOf places name_of sends) (IsTaken places name_of sends)
+      (sent_from places name_of sends) name came → IsSentTo places name_of sends name came
+  own_sent None came link = link
+  own_sent (Some name) came link =
+      let tried = link.opened.tried in
+      let address = tried.address in
+      let test : ℕ → Bool = λ n. is_named name_of name (slice_get places n) in
+      let same : link.socket ≡ address =
+      socket_is address (sent_from places name_of sends address) link.socket tried.opening in
+      let among : slice_get (numbers_below test (length places)) link.opened.place ≡ Some address =
+      subst (λ z. slice_get z link.opened.place ≡ Some address) link.found tried.there in
+      let named = named_place name_of name (slice_get places address)
+      (passes test (length places) link.opened.place address among) in
+      let sent = some_sent (sent_from places name_of sends link.socket) link.connected in (
+        sent.0,
+        record {
+          number = address;
+          place = named.0;
+          there = named.1;
+          named = named.2;
+          sent = sym (ap (option_and_then sends) named.1)
+              ∙ subst (λ z. sent_from places name_of sends z ≡ Some sent.0) same sent.1;
+        },
+        link.all ∙ sent.1,
+      )
+
+  -- What was read is a front of them.
+  front_sent : (name : List ℕ) (came : KnownOctets) (read : List ℕ) → IsSentTo places name_of sends (Some name) came
+      → CameFirst came read → IsFrontSent places name_of sends name read
+  front_sent name came read own first =
+      let known : CameFirst (Some own.0) read = subst (λ z. CameFirst z read) own.2 first in
+      let rest = cut own.0 known.0 read known.1 in
+      record { octets = own.0; sent = own.1; rest = rest.0; front = rest.1 }
+
+  own_read : (name : Option (List ℕ)) (q : _) (s : _) (at_once : Bool) (c : ℕ) (h : History)
+      → IsConnectionAskedIf (IsSentTo places name_of sends name) (is_some name) q s at_once c h
+      → IsOwnRead places name_of sends name (fed (events_on c h))
+  own_read None q s at_once c h t = ap fed t
+  own_read (Some name) q s at_once c h t =
+      ⊎_elim (λ none. inl none) (λ r. inr (front_sent name r.0 (fed (events_on c h)) r.1 r.2))
+      (fed_asked (IsSentTo places name_of sends (Some name)) t)
+
+  -- The connections are asked over these octets, and read fronts of them.
+  pub asked_known : (names : ℕ → Option (List ℕ)) (q : _) (s : _) (at_once : Bool) (meta : _)
+      → IsAskedOver (λ c. IsOwnLink (AreAllNamed places name_of sends) (IsSocketOf places name_of sends)
+      (IsTaken places name_of sends) (sent_from places name_of sends) (names c))
+      q s at_once (λ c. is_some (names c)) meta
+      → (asked : IsAskedOver (λ c. IsSentTo places name_of sends (names c)) q s at_once (λ c. is_some (names c)) meta)
+      × AreOwnRead places name_of sends names (length q) asked.history
+  asked_known names q s at_once meta over =
+      let each : (c : ℕ) → c < length q → IsConnectionAskedIf (IsSentTo places name_of sends (names c))
+      (is_some (names c)) q s at_once c over.history = λ c lt. asked_for
+      (IsOwnLink (AreAllNamed places name_of sends) (IsSocketOf places name_of sends) (IsTaken places name_of sends)
+      (sent_from places name_of sends) (names c)) (IsSentTo places name_of sends (names c)) (is_some (names c)) q s
+      at_once c over.history (own_sent (names c)) (over.each c lt) in (
+        record { history = over.history; after = over.after; each = each },
+        λ c lt. own_read (names c) q s at_once c over.history (each c lt),
+      )

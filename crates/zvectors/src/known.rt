@@ -1,0 +1,362 @@
+// Hosts in memory of which all octets are known. What is read of each is a front of its own octets.
+ghost use Rattle.std.specs.Prelude.{◌≡◌, ◌<◌, ◌≤◌, ◌^◌, ◌++◌, ℕ, false, [], length, take, drop, IfOk, bytes_eq, option_copied};
+ghost use Rattle.std.specs.Duration.{as_nanos};
+ghost use Rattle.zoom.specs.Asking.{is_present, IsAskedOver};
+ghost use Rattle.zoom.specs.Askable.{AreAskable, AreFit};
+ghost use Rattle.zoom.specs.HostLinks.{IsBoundedTransfer, IsConnectedIf, AfterReadFrom};
+ghost use Rattle.zoom.specs.TalksAmong.{halves_at};
+ghost use Rattle.zvectors.specs.Known.{sent_from, sent_after, AreAllNamed, IsSocketOf, IsTaken, IsSentTo, AreOwnRead};
+
+use crate::asking::{ACCEPTS, states_text};
+use crate::metas::question;
+use bytes::Bytes;
+use std::alloc::{AllocError, Global};
+use std::marker::{Brand, PhantomData};
+use std::test::Fail;
+use std::time::Duration;
+use zber_tests::rows::{each_row, pair, split_row, tells};
+use zber_tests::unread::{Unread, read};
+use zoom::{
+    ConnectProgress, Limits, Meta, MetaSettings, Network, Question, Readiness, Sockets, Transfer,
+    Unwatched, ask_over,
+};
+
+// The most octets of a read.
+const STEP: usize = 7;
+
+/// An address of a host.
+#[derive(Drop)]
+struct Place {
+    /// The name by which it is found.
+    name: Bytes,
+    /// All octets that come on its sockets, unless it refuses.
+    sends: Option<Bytes>,
+}
+
+/// The addresses that there are, as contracts name them.
+trait Places {
+    ghost use Rattle.std.specs.Prelude.{List};
+    ghost use Rattle.zvectors.specs.declared.known.Place.{Place};
+
+    ghost places: { List Place };
+}
+
+impl Places for Brand {
+    ghost use Rattle.std.specs.Prelude.{[]};
+
+    ghost places = { [] };
+}
+
+/// Hosts in memory, under a clock that stands still. A socket has the number of its address. All that a host sends has
+/// come when it is connected.
+#[derive(Drop)]
+struct KnownHosts<K: Places> {
+    places: Vec<Place>,
+    /// How many octets of each address were not read.
+    left: Vec<usize>,
+    of: PhantomData<K>,
+    ghost same: { places.items ≡ K.places },
+}
+
+impl<K: Places> KnownHosts<K> {
+    fn new(alloc: Global, places: Vec<Place>) -> Result<KnownHosts<K>, AllocError>
+        requires { places.items ≡ K.places }
+    {
+        let mut left = Vec::new(alloc);
+        for place in &places {
+            left.push(count_of(place))?;
+        }
+        Ok(KnownHosts {
+            places,
+            left,
+            of: PhantomData,
+        })
+    }
+
+    /// The octets of the address with this number, unless it refuses.
+    fn octets_from(&self, number: usize) -> Option<&[u8]>
+        ensures { option_copied result ≡ sent_from K.places (λ p. p.name) (λ p. p.sends) number }
+    {
+        match self.places.get(number) {
+            Some(place) => octets_of(place),
+            None => None,
+        }
+    }
+}
+
+/// The octets of an address, unless it refuses.
+fn octets_of(place: &Place) -> Option<&[u8]>
+    ensures { option_copied result ≡ place.now.sends }
+{
+    match &place.sends {
+        Some(octets) => Some(octets.as_slice()),
+        None => None,
+    }
+}
+
+/// How many octets an address sends.
+fn count_of(place: &Place) -> usize {
+    match octets_of(place) {
+        Some(octets) => octets.len(),
+        None => 0,
+    }
+}
+
+/// Whether an address has this name.
+fn has_name(place: &Place, name: &str) -> bool
+    ensures { result ≡ bytes_eq place.now.name name.now }
+{
+    place.name.as_slice() == name.as_bytes()
+}
+
+/// Gives the octets that come next. Returns how many.
+fn give(octets: &[u8], cursor: &mut usize, piece: &mut [u8]) -> usize
+    ensures bound { result ≤ length piece.new }
+    ensures moved { drop cursor.old octets.now ≡ take result piece.new ++ drop cursor.new octets.now }
+    ensures end { result ≡ 0 → 0 < length piece.new → drop cursor.new octets.now ≡ [] }
+{
+    if *cursor >= octets.len() {
+        return 0;
+    }
+    let (_, rest) = octets.split_at(*cursor);
+    let count = rest.len().min(piece.len()).min(STEP);
+    let (given, _) = rest.split_at(count);
+    piece[..count].copy_from_slice(given);
+    *cursor += count;
+    count
+}
+
+impl<K: Places> Sockets for KnownHosts<K> {
+    type Address = usize;
+
+    type Socket = usize;
+
+    type Cursor = usize;
+
+    ghost IsMoment = { λ time. as_nanos time ≡ 0 };
+
+    ghost AreFound = { AreAllNamed K.places (λ p. p.name) (λ p. p.sends) };
+
+    ghost IsOpening = { IsSocketOf K.places (λ p. p.name) (λ p. p.sends) };
+
+    ghost IsConnected = { IsTaken K.places (λ p. p.name) (λ p. p.sends) };
+
+    ghost octets = { sent_from K.places (λ p. p.name) (λ p. p.sends) };
+
+    ghost octets_left = { sent_after K.places (λ p. p.name) (λ p. p.sends) };
+
+    fn now(&self) -> Option<Duration> {
+        Some(Duration::ZERO)
+    }
+
+    fn resolve(&self, alloc: Global, text: &str) -> Result<Vec<usize>, AllocError> {
+        let mut found = Vec::new(alloc);
+        for i in 0..self.places.len() {
+            if has_name(&self.places[i], text) {
+                found.push(i)?;
+            }
+        }
+        Ok(found)
+    }
+
+    fn connect(&mut self, _: usize, address: &usize) -> Option<usize> {
+        match self.octets_from(*address) {
+            Some(_) => Some(*address),
+            None => None,
+        }
+    }
+
+    fn progress(&mut self, socket: &usize) -> ConnectProgress {
+        match self.octets_from(*socket) {
+            Some(_) => ConnectProgress::Connected,
+            None => ConnectProgress::Refused,
+        }
+    }
+
+    fn first(_: &usize) -> usize {
+        0
+    }
+
+    fn wait(&mut self, _: Duration, ready: &mut [Readiness]) -> bool {
+        let all = Readiness {
+            readable: true,
+            writable: true,
+            closed: true,
+        };
+        let mut is_new = false;
+        for noted in ready.iter_mut() {
+            is_new = is_new || *noted != all;
+            *noted = all;
+        }
+        is_new
+    }
+
+    fn read(&mut self, socket: &usize, cursor: &mut usize, piece: &mut [u8]) -> Transfer {
+        let Some(octets) = self.octets_from(*socket) else {
+            return Transfer::Failure;
+        };
+        let count = give(octets, cursor, piece);
+        if let Some(left) = self.left.get_mut(*socket) {
+            *left = left.saturating_sub(count);
+        }
+        Transfer::Octets(count)
+    }
+
+    fn write(&mut self, _: &usize, piece: &[u8]) -> Transfer {
+        Transfer::Octets(piece.len())
+    }
+}
+
+/// Does what `ask_known` does, over the addresses that there are.
+fn ask_places<K: Places>(
+    alloc: Global,
+    places: Vec<Place>,
+    questions: Vec<Question>,
+    settings: MetaSettings,
+    addresses: &[Option<Bytes>],
+    limits: Limits,
+) -> Result<(Meta, Vec<usize>), AllocError>
+    requires known { places.items ≡ K.places }
+    requires some { length questions.items < 2 ^ 32 }
+    requires askable { AreAskable questions.items }
+    requires fit { AreFit settings }
+    requires equal { length addresses.now ≡ length questions.items }
+    ensures read { IfOk result (λ answer. (asked : IsAskedOver
+        (λ c. IsSentTo K.places (λ p. p.name) (λ p. p.sends) (halves_at addresses.now c))
+        questions.items settings false (is_present addresses.now) answer.0)
+        × AreOwnRead K.places (λ p. p.name) (λ p. p.sends) (halves_at addresses.now) (length questions.items)
+        asked.history) }
+{
+    let network = Network::new(alloc, KnownHosts::<K>::new(alloc, places)?);
+    let watch = &mut Unwatched;
+    let meta = ask_over(
+        alloc, &network, questions, settings, addresses, limits, watch,
+    )?;
+    Ok((meta, network.into_sockets().left))
+}
+
+/// Asks in order over hosts in memory. Each connection with a link is asked over all octets of an address of its own
+/// name, and what it read is a front of them. Returns also how many octets of each address were not read.
+fn ask_known(
+    alloc: Global,
+    places: Vec<Place>,
+    questions: Vec<Question>,
+    settings: MetaSettings,
+    addresses: &[Option<Bytes>],
+    limits: Limits,
+) -> Result<(Meta, Vec<usize>), AllocError>
+    requires some { length questions.items < 2 ^ 32 }
+    requires askable { AreAskable questions.items }
+    requires fit { AreFit settings }
+    requires equal { length addresses.now ≡ length questions.items }
+    ensures read { IfOk result (λ answer. (asked : IsAskedOver
+        (λ c. IsSentTo places.items (λ p. p.name) (λ p. p.sends) (halves_at addresses.now c))
+        questions.items settings false (is_present addresses.now) answer.0)
+        × AreOwnRead places.items (λ p. p.name) (λ p. p.sends) (halves_at addresses.now) (length questions.items)
+        asked.history) }
+{
+    ask_places::<Brand>(alloc, places, questions, settings, addresses, limits)
+}
+
+/// The Init is accepted, a search finds one record, it is presented, and the Close is answered.
+const RECORD: &[u8] =
+    b"\xb5\x1c\x82\x04\0\0\0\0\x83\x02\x05\xe0\x84\x03\x01\xc0\x06\x85\x03\x10\0\0\x86\x03\x10\0\0\x8c\x01\xff\
+\xb7\x12\x82\x04\0\0\0\x01\x97\x01\x01\x98\x01\0\x99\x01\x01\x96\x01\xff\
+\xb9\x26\x82\x04\0\0\0\x02\x98\x01\x01\x99\x01\x02\x9b\x01\0\xbc\x15\x30\x13\xa1\x11\xa1\x0f\x28\x0d\x06\x07\
+\x2a\x86\x48\xce\x13\x05\x0a\x81\x02hi\
+\xbf\x30\x05\x9f\x81\x53\x01\0";
+
+/// The Init is accepted, a search finds nothing, and the Close is answered.
+const NOTHING: &[u8] =
+    b"\xb5\x1c\x82\x04\0\0\0\0\x83\x02\x05\xe0\x84\x03\x01\xc0\x06\x85\x03\x10\0\0\x86\x03\x10\0\0\x8c\x01\xff\
+\xb7\x12\x82\x04\0\0\0\x01\x97\x01\0\x98\x01\0\x99\x01\0\x96\x01\xff\
+\xbf\x30\x05\x9f\x81\x53\x01\0";
+
+// Addresses: the name of the host, and what it sends. Then the states of the connections to `a`, `b` and `c`, that of
+// the one that nobody is asked on, and how many octets of each address were not read.
+const ENDS: &str = "\
+# Each host answers to its end, and all its octets are read.
+a record, b nothing, c record | Closed Closed Closed Fresh [0, 0, 0]
+# One ends early, and one sends nothing: their octets are read too.
+a accepts, b -, c record | Failed(Ended) Failed(Ended) Closed Fresh [0, 0, 0]
+# One refuses, and one is not known.
+a refuses, o record, c nothing | Failed(Connect) Failed(Connect) Closed Fresh [0, 98, 0]
+# The first address of one refuses, and its second answers; an address behind one that answers is not tried.
+a refuses, a record, b refuses, b refuses, c nothing, c record | Closed Failed(Connect) Closed Fresh [0, 0, 0, 0, 0, 98]
+";
+
+// What an address sends, unless it refuses.
+fn sent(word: &str) -> Option<Bytes> {
+    match word {
+        "record" => Some(Bytes::from_static(RECORD)),
+        "nothing" => Some(Bytes::from_static(NOTHING)),
+        "accepts" => Some(Bytes::from_static(ACCEPTS)),
+        "-" => Some(Bytes::from_static(b"")),
+        _ => None,
+    }
+}
+
+fn places_of(alloc: Global, row: &str) -> Result<Vec<Place>, Unread> {
+    let mut places = Vec::new(alloc);
+    for part in row.split(", ") {
+        let (name, sends) = pair(part);
+        let Ok(name) = Bytes::copy_from_slice(alloc, name.as_bytes()) else {
+            return Err(Unread);
+        };
+        let sends = sent(sends);
+        if places.push(Place { name, sends }).is_err() {
+            return Err(Unread);
+        }
+    }
+    Ok(places)
+}
+
+// Asks the hosts `a`, `b` and `c` for the records of a word, and nobody for the last question.
+fn ask_three(alloc: Global, places: Vec<Place>) -> Result<(Meta, Vec<usize>), Unread> {
+    let questions = vec![in alloc;
+        question(alloc, false)?,
+        question(alloc, false)?,
+        question(alloc, false)?,
+        question(alloc, false)?,
+    ]?;
+    let settings = MetaSettings {
+        name: Bytes::from_static(b"zmeta"),
+        step: 3,
+        window: 4,
+    };
+    let addresses = [
+        Some(Bytes::from_static(b"a")),
+        Some(Bytes::from_static(b"b")),
+        Some(Bytes::from_static(b"c")),
+        None,
+    ];
+    let limits = Limits {
+        patience: Duration::from_millis(1000),
+        total: None,
+    };
+    read(ask_known(alloc, places, questions, settings, &addresses, limits))
+}
+
+// How a case ends.
+fn end_text(alloc: Global, row: &str) -> Result<String, Unread> {
+    let Ok(places) = places_of(alloc, row) else {
+        return Err(Unread);
+    };
+    let Ok((meta, left)) = ask_three(alloc, places) else {
+        return Err(Unread);
+    };
+    let Ok(states) = states_text(alloc, &meta) else {
+        return Err(Unread);
+    };
+    read(format!(in alloc; "{states} {left:?}"))
+}
+
+fn is_end(alloc: Global, row: &str) -> Result<bool, Unread> {
+    let (places, end) = split_row(row, " | ");
+    Ok(tells(end_text(alloc, places), end))
+}
+
+#[test]
+fn hosts_are_read_as_they_send(rt: HostRuntime) -> Result<(), Fail> {
+    each_row(rt.alloc(), ENDS, is_end)
+}

@@ -1,0 +1,41 @@
+#!/usr/bin/env python3
+"""Says whether each wrong body of tests/mutants still changes a text that stands: each `old:` once in its file.
+
+The prover tries these edits only on demand (tests/mutants/check), so a changed name could leave one that tries nothing.
+The status is 1 where a text is gone or stands twice.
+"""
+import pathlib
+import sys
+
+TOP = pathlib.Path(__file__).resolve().parents[2]
+
+
+def faults_of(edit):
+    crate, at, number = TOP / "crates" / edit.parent.name, None, 0
+    for line in edit.read_text(encoding="utf-8").splitlines():
+        word, _, text = line.partition(": ")
+        if word == "file":
+            at = crate / text.strip()
+            if not at.is_file():
+                yield f"there is no {text.strip()}"
+                return
+        elif word == "old":
+            number += 1
+            found = at.read_text(encoding="utf-8").count(text) if at else 0
+            if found != 1:
+                yield f"this stands {found} times: {text.strip()}"
+    if not number:
+        yield "it changes nothing"
+
+
+def main():
+    edits = sorted((TOP / "tests/mutants").glob("*/*.edit"))
+    faults = [f"{edit.relative_to(TOP)}: {fault}" for edit in edits for fault in faults_of(edit)]
+    for fault in faults:
+        print(f"mutants: {fault}", file=sys.stderr)
+    print(f"mutants: {len(edits)} wrong bodies change a text that stands" if not faults else f"mutants: {len(faults)} faults")
+    return 1 if faults or not edits else 0
+
+
+if __name__ == "__main__":
+    sys.exit(main())
