@@ -11,7 +11,7 @@ use Rattle.zasn.specs.Answers.{CountedReadingResult, counted_reading}
 use Rattle.zasn.proofs.Withins.{value_is_no_misfit, err_is}
 use Rattle.zapdu.specs.declared.apdu.Apdu.{Apdu}
 use Rattle.zapdu.specs.declared.apdu.Kind.{Kind}
-use Rattle.zapdu.specs.Writes.{kind_of, tag_of_kind, AreApduParts, Writes, kind_at, IsApduFront, IsMisfitAt, IsMalformed, IsNoApdu, apdu_at}
+use Rattle.zapdu.specs.Writes.{kind_of, tag_of_kind, AreApduParts, Writes, kind_at, IsApduFront, IsLargestFront, HasLargestFront, IsNoApdu, apdu_at}
 use Rattle.zapdu.proofs.ApduKinds.{AreKindParts, apdu_exact, kind_at-tag_of_kind, tag_from_kind}
 
 -- ---- the misfit's place
@@ -29,7 +29,7 @@ past_text ns front r rest more n k e f = ap (λ (x : List Element). take k x ++ 
 front_text : (ns front r : List Element) → ns ≡ front ++ r → take (length ns - length r) ns ≡ front
 front_text ns front r e = ap (λ (x : List Element). take (length x - length r) x) e ∙ take_at front r (length (front ++ r) - length r) (omega (arith, length-append front r))
 
-misfit_at : (kind : Kind) (ns r : List Element) → IsMisfit (AreKindParts kind) ns r → IsMisfitAt kind ns (length ns - length r)
+misfit_at : (kind : Kind) (ns r : List Element) → IsMisfit (AreKindParts kind) ns r → IsLargestFront kind ns (length ns - length r)
 misfit_at kind ns r m =
     let len : length m.front ≡ length ns - length r = omega (arith, ap length m.parts, length-append m.front r) in
     let front : take (length ns - length r) ns ≡ m.front = front_text ns m.front r m.parts in
@@ -52,7 +52,7 @@ decodes_ok n t ns kind v e k r =
     let h = (apdu_exact kind).reads ns v r in
     rw (e, elements-forest ns) (tag_from_kind t kind k ∙ ap tag_of_kind (sym h.0), h.1)
 
-pub decodes_malformed : (n : Element) (t : AsnTag) (ns r : List Element) (kind : Kind) → n ≡ cons t ns → kind_at t ≡ Some kind → apdu_at kind ns ≡ Err r → ((v : Apdu) → Writes v n → ⊥) × IsMalformed kind (length ns - length r) n
+pub decodes_malformed : (n : Element) (t : AsnTag) (ns r : List Element) (kind : Kind) → n ≡ cons t ns → kind_at t ≡ Some kind → apdu_at kind ns ≡ Err r → ((v : Apdu) → Writes v n → ⊥) × HasLargestFront kind (length ns - length r) n
 decodes_malformed n t ns r kind e k f = rw (e, elements-forest ns) (not, (tag_from_kind t kind k, misfit_at kind ns r ((apdu_exact kind).fails ns r f)))
   where
     not : (v : Apdu) → (t ≡ tag_of_kind (kind_of v)) × AreApduParts v ns → ⊥
@@ -81,7 +81,7 @@ taken_ok n t ns xs kind a k v e is same h found =
     decodes_ok n t ns kind v e is read
 
 pub taken_malformed : (n : Element) (t : AsnTag) (ns xs zs : List Element) (kind : Kind) (a : Result Apdu PartError) (e : PartError) (all k at : ℕ) → n ≡ cons t ns → kind_at t ≡ Some kind → xs ≡ ns → CountedReadingResult (apdu_at kind xs) a k → a ≡ Err e → e ≡ Misfit
-    → zs ≡ ns → all ≡ length zs → at ≡ all - k → ((v : Apdu) → Writes v n → ⊥) × IsMalformed kind at n
+    → zs ≡ ns → all ≡ length zs → at ≡ all - k → ((v : Apdu) → Writes v n → ⊥) × HasLargestFront kind at n
 taken_malformed n t ns xs zs kind a e all k at one is same h found misfit slice many place =
     let told : CountedReadingResult (apdu_at kind ns) (Err e) k = subst (λ (ys : List Element). CountedReadingResult (apdu_at kind ys) (Err e) k) same (subst (λ (b : Result Apdu PartError). CountedReadingResult (apdu_at kind xs) b k) found h) in
     let count : counted_reading (apdu_at kind ns) ≡ Err k = subst (λ (f : PartError). CountedReadingResult (apdu_at kind ns) (Err f) k) misfit told in

@@ -5,14 +5,14 @@ use Rattle.zber.specs.AsnTags.{AsnTag}
 use Rattle.zber.specs.Elements.{Element, Primitive, Constructed, elements}
 use Rattle.zapdu.specs.declared.apdu.Apdu.{Apdu}
 use Rattle.zapdu.specs.declared.apdu.Kind.{Kind}
-use Rattle.zapdu.specs.Writes.{kind_of, tag_of_kind, Writes, kind_at, IsMisfitAt, IsMalformed, IsNoApdu, OneRefusal}
+use Rattle.zapdu.specs.Writes.{kind_of, tag_of_kind, Writes, kind_at, IsLargestFront, HasLargestFront, IsNoApdu, OneRefusal}
 use Rattle.zapdu.proofs.ApduKinds.{kind_at-tag_of_kind}
 
 written : (v : Apdu) (n : Element) → Writes v n → IsNoApdu n → ⊥
 written v (Primitive t xs) h g = h
 written v (Constructed t f) h g = g (kind_of v) h.0
 
-known : (kind : Kind) (at : ℕ) (n : Element) → IsNoApdu n → IsMalformed kind at n → ⊥
+known : (kind : Kind) (at : ℕ) (n : Element) → IsNoApdu n → HasLargestFront kind at n → ⊥
 known kind at (Primitive t xs) g h = h
 known kind at (Constructed t f) g h = g kind h.0
 
@@ -22,7 +22,7 @@ one_kind j k t e f =
     let second : kind_at t ≡ Some k = rw f (kind_at-tag_of_kind k) in
     cc
 
-one_misfit : (k : Kind) (ns : List Element) (a b : ℕ) → IsMisfitAt k ns a → IsMisfitAt k ns b → a ≡ b
+one_misfit : (k : Kind) (ns : List Element) (a b : ℕ) → IsLargestFront k ns a → IsLargestFront k ns b → a ≡ b
 one_misfit k ns a b f g = elim (cases_order a b) [
   | inl e ↦ e
   | inr o ↦ (elim o [
@@ -31,11 +31,11 @@ one_misfit k ns a b f g = elim (cases_order a b) [
   ])
 ]
 
-one_place : (j k : Kind) (a b : ℕ) (n : Element) → IsMalformed j a n → IsMalformed k b n → (j ≡ k) × (a ≡ b)
+one_place : (j k : Kind) (a b : ℕ) (n : Element) → HasLargestFront j a n → HasLargestFront k b n → (j ≡ k) × (a ≡ b)
 one_place j k a b (Primitive t xs) f g = absurd f
 one_place j k a b (Constructed t h) f g =
     let same : j ≡ k = one_kind j k t f.0 g.0 in
-    (same, one_misfit k (elements h) a b (subst (λ (i : Kind). IsMisfitAt i (elements h) a) same f.1) g.1)
+    (same, one_misfit k (elements h) a b (subst (λ (i : Kind). IsLargestFront i (elements h) a) same f.1) g.1)
 
 pub one_refusal : OneRefusal
 one_refusal = record { written = written; known = known; one_place = one_place }

@@ -75,15 +75,16 @@ abbrev pub IsApduFront : Kind → List Element → Type 0
 IsApduFront kind ns = (v : Apdu) × (kind_of v ≡ kind) × (more : List Element) × AreApduParts v (ns ++ more)
 
 -- `at` is the largest number of first elements of `ns` with which some APDU of the kind begins
-pub record IsMisfitAt (kind : Kind) (ns : List Element) (at : ℕ) : Type 0 where
+pub record IsLargestFront (kind : Kind) (ns : List Element) (at : ℕ) : Type 0 where
   pub within : at ≤ length ns
   pub begins : IsApduFront kind (take at ns)
   pub largest : (k : ℕ) → at < k → k ≤ length ns → IsApduFront kind (take k ns) → ⊥
 
--- the element has the kind's tag, and its first wrong place is `at`
-abbrev pub IsMalformed : Kind → ℕ → Element → Type 0
-IsMalformed kind at (Primitive t xs) = ⊥
-IsMalformed kind at (Constructed t f) = (t ≡ tag_of_kind kind) × IsMisfitAt kind (elements f) at
+-- the element has the kind's tag, and `at` is the largest number of its first elements with which some APDU of the kind
+-- begins
+abbrev pub HasLargestFront : Kind → ℕ → Element → Type 0
+HasLargestFront kind at (Primitive t xs) = ⊥
+HasLargestFront kind at (Constructed t f) = (t ≡ tag_of_kind kind) × IsLargestFront kind (elements f) at
 
 -- the element is primitive, or has the tag of no APDU
 abbrev pub IsNoApdu : Element → Type 0
@@ -94,7 +95,7 @@ IsNoApdu (Constructed t f) = (kind : Kind) → t ≡ tag_of_kind kind → ⊥
 abbrev pub IsDecodeResult : Element → Result Apdu ApduError → Type 0
 IsDecodeResult n (Ok v) = Writes v n
 IsDecodeResult n (Err errors.NotApdu) = IsNoApdu n
-IsDecodeResult n (Err (errors.Malformed kind at)) = ((v : Apdu) → Writes v n → ⊥) × IsMalformed kind at n
+IsDecodeResult n (Err (errors.Malformed kind at)) = ((v : Apdu) → Writes v n → ⊥) × HasLargestFront kind at n
 IsDecodeResult n (Err errors.Memory) = Unit {0}
 
 -- the APDU of this kind that has these elements, or the elements left at the first wrong place
@@ -125,5 +126,6 @@ apdu_spelling v = around (tag_of_kind (kind_of v)) (apdu_parts v)
 -- one has one kind and one place.
 pub record OneRefusal : Type 0 where
   pub written : (v : Apdu) (n : Element) → Writes v n → IsNoApdu n → ⊥
-  pub known : (kind : Kind) (at : ℕ) (n : Element) → IsNoApdu n → IsMalformed kind at n → ⊥
-  pub one_place : (j k : Kind) (a b : ℕ) (n : Element) → IsMalformed j a n → IsMalformed k b n → (j ≡ k) × (a ≡ b)
+  pub known : (kind : Kind) (at : ℕ) (n : Element) → IsNoApdu n → HasLargestFront kind at n → ⊥
+  pub one_place : (j k : Kind) (a b : ℕ) (n : Element) → HasLargestFront j a n → HasLargestFront k b n
+      → (j ≡ k) × (a ≡ b)

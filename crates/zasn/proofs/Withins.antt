@@ -4,13 +4,13 @@ use Rattle.std.proofs.lemmas.List.{drop_at}
 use Rattle.zber.specs.AsnTags.{AsnTag}
 use Rattle.zber.specs.Elements.{Element, cons}
 use Rattle.zasn_tables.specs.Table.{Elements}
-use Rattle.zasn_tables.specs.Within.{found, sequence_of, any_at, all_meanings, list_meaning}
+use Rattle.zasn_tables.specs.Within.{value_read, sequence_of, any_at, all_meanings, list_meaning}
 use Rattle.zber.proofs.Runs.{elements-forest}
 use Rattle.zasn.specs.declared.error.PartError.{PartError}
 use Rattle.zasn.specs.declared.error.PartError.TheVariants.{Misfit, Memory}
 use Rattle.zasn.specs.Answers.{ReadingResult, OwnReadingResult, MeaningResult, counted_reading}
 
-pub found_means : {A : Type 0} (r : Result A (List Element)) (a : Result A PartError) (left : List Element) → ReadingResult r a left → MeaningResult (found r) a
+pub found_means : {A : Type 0} (r : Result A (List Element)) (a : Result A PartError) (left : List Element) → ReadingResult r a left → MeaningResult (value_read r) a
 found_means r (Ok x) left h = rw h refl
 found_means r (Err Misfit) left h = rw h refl
 found_means r (Err Memory) left h = tt
@@ -42,7 +42,7 @@ pub value_is_no_misfit : {A : Type 0} (x : A) (n : ℕ) → counted_reading {A =
 value_is_no_misfit x n e = cc
 
 -- the same of elements that are given away
-pub counted_means : {A : Type 0} (r : Result A (List Element)) (a : Result A PartError) (left : List Element) → OwnReadingResult r a left → MeaningResult (found r) a
+pub counted_means : {A : Type 0} (r : Result A (List Element)) (a : Result A PartError) (left : List Element) → OwnReadingResult r a left → MeaningResult (value_read r) a
 counted_means r (Ok x) left h = rw h refl
 counted_means (Ok y) (Err Misfit) left h = absurd (value_is_no_misfit y (length left) h)
 counted_means (Err r) (Err Misfit) left h = refl

@@ -8,7 +8,7 @@ use Rattle.zber.specs.Tags.{same_tag, among}
 use Rattle.zasn_tables.specs.Laws.{IsLawfulPlace, IsSpelled}
 use Rattle.zasn_tables.specs.Place.{Place}
 use Rattle.zasn_tables.specs.Table.{Elements}
-use Rattle.zasn_tables.specs.Within.{found, sequence_of, around, itself, any_at, is_kept, each, with_head, all_meanings, list_meaning, whole_of, all_spellings}
+use Rattle.zasn_tables.specs.Within.{value_read, sequence_of, around, itself, any_at, is_kept, each, with_head, all_meanings, list_meaning, whole_of, all_spellings}
 use Rattle.zasn_tables.proofs.Readings.{same_tag-refl, or_left, one_tag}
 
 abbrev some : {A : Type 0} → A → Option A
@@ -17,7 +17,7 @@ some x = Some x
 some_is : {A : Type 0} (x y : A) → some x ≡ some y → x ≡ y
 some_is x y e = cc
 
-found_some : {A : Type 0} (r : Result A (List Element)) (x : A) → found r ≡ Some x → r ≡ Ok x
+found_some : {A : Type 0} (r : Result A (List Element)) (x : A) → value_read r ≡ Some x → r ≡ Ok x
 found_some (Ok y) x e = let same : y ≡ x = some_is y x e in ap (λ (z : _). Ok z) same
 found_some (Err s) x e = absurd cc
 

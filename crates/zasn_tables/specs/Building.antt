@@ -7,6 +7,7 @@ use Rattle.zasn_tables.specs.Reading.{option_map}
 
 -- builds on from the elements written so far, or gives nothing if a part before has no spelling
 infixl 10 ◌>>=◌
+-- the second step from what the first gives, if it gives a value
 abbrev pub ◌>>=◌ : {A B : Type 0} → Option A → (A → Option B) → Option B
 (Some x) >>= f = f x
 None >>= f = None

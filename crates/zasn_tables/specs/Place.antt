@@ -5,6 +5,7 @@ use Rattle.zber.specs.AsnTags.{AsnTag}
 use Rattle.zber.specs.Elements.{Element, tag_of}
 use Rattle.zber.specs.Tags.{among}
 
+-- how a value stands in an element: the tags, the spellings, and the reading
 pub record Place (A : Type 0) : Type 1 where
   -- the tags of its elements
   pub tags : List AsnTag

@@ -11,6 +11,7 @@ constructed (Constructed t f) = Some (Constructed t f)
 
 -- reads on from what was read so far, or keeps the elements that were left at a misfit before
 infixl 10 ◌>>=◌
+-- the second step from what the first gives, if it gives a value
 abbrev pub ◌>>=◌ : {A B : Type 0} → Result A (List Element) → (A → Result B (List Element)) → Result B (List Element)
 (Ok x) >>= f = f x
 (Err r) >>= f = Err r

@@ -27,6 +27,7 @@ pub data ComponentTable (V : Type 0) : Type 1 where
 
 -- a place, and then those that follow
 infixr 5 ◌⨾◌
+-- one place before the others
 abbrev pub ◌⨾◌ : {V : Type 0} → (ComponentTable V → ComponentTable V) → ComponentTable V → ComponentTable V
 place ⨾ more = place more
 

@@ -7,14 +7,14 @@ use Rattle.zasn_tables.specs.Reading.{◌>>=◌, option_map, required_at, ended_
 use Rattle.zasn_tables.specs.Place.{Place}
 
 -- the value that reading gives, if any
-abbrev pub found : {A : Type 0} → Result A (List Element) → Option A
-found (Ok x) = Some x
-found (Err r) = None
+abbrev pub value_read : {A : Type 0} → Result A (List Element) → Option A
+value_read (Ok x) = Some x
+value_read (Err r) = None
 
 -- what the elements within an element mean
 abbrev pub sequence_of : {A : Type 0} → (List Element → Result A (List Element)) → Element → Option A
 sequence_of walk (Primitive t b) = None
-sequence_of walk (Constructed t f) = found (walk (elements f))
+sequence_of walk (Constructed t f) = value_read (walk (elements f))
 
 -- the element with the tag around these elements
 abbrev pub around : AsnTag → Option (List Element) → Option Element

@@ -3,6 +3,7 @@ use Rattle.std.specs.Prelude.{ℕ, ◌≡◌, ◌<◌, ◌^◌}
 use Rattle.zber.specs.declared.tag.Class.{Class}
 use Rattle.zber.specs.declared.tag.Class.TheVariants.{Universal, Context}
 
+-- a tag of ASN.1: its class and its number
 pub record AsnTag : Type 0 where
   pub class : Class
   pub number : ℕ

@@ -5,13 +5,13 @@ use Rattle.zber.specs.declared.front.Front.{Front}
 use Rattle.zber.specs.declared.front.Front.TheVariants.{Nothing, HalfEnd, Groups, NoLength, SizeOctets}
 use Rattle.zber.specs.declared.front.Step.{Step}
 use Rattle.zber.specs.declared.front.Step.TheVariants.{On, End, Whole, Bad}
-use Rattle.zber.specs.Spelling.{groups_from, first, lead, octets_from, Identifier}
+use Rattle.zber.specs.Spelling.{groups_from, leading_octet, lead, octets_from, Identifier}
 use Rattle.zber.specs.Headers.{AreFrontGroups, Header, HasHeaderFault}
 
 -- the groups so far form the number, and more follow
 pub record GroupsFront (xs : List ℕ) (number : ℕ) : Type 0 where
   pub go_on : AreFrontGroups xs
-  pub shortest : first xs ≢ 128
+  pub shortest : leading_octet xs ≢ 128
   pub value : number ≡ groups_from 0 xs
   pub fits : number < 2 ^ 32
   pub some : 0 < length xs → 0 < number

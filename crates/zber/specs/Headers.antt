@@ -5,7 +5,7 @@ use Rattle.zber.specs.declared.fault.FaultKind.{FaultKind}
 use Rattle.zber.specs.declared.fault.FaultKind.TheVariants as kind
 use Rattle.zber.specs.declared.fault.HeaderPlace.{HeaderPlace}
 use Rattle.zber.specs.AsnTags.{AsnTag}
-use Rattle.zber.specs.Spelling.{groups_from, first, lead, Identifier, Length}
+use Rattle.zber.specs.Spelling.{groups_from, leading_octet, lead, Identifier, Length}
 
 -- groups of seven bits before the last: each octet has the high bit
 abbrev pub AreFrontGroups : List ℕ → Type 0
@@ -28,7 +28,7 @@ pub data IsFront (marked : Bool) : List ℕ → Type 0 where
   nothing : IsFront marked []
   half_end : marked ≡ true → IsFront marked (0 ∷ [])
   groups : (class : Class) (c : Bool) (xs : List ℕ)
-      → AreFrontGroups xs → first xs ≢ 128 → groups_from 0 xs < 2 ^ 32 → IsFront marked (lead class c 31 ∷ xs)
+      → AreFrontGroups xs → leading_octet xs ≢ 128 → groups_from 0 xs < 2 ^ 32 → IsFront marked (lead class c 31 ∷ xs)
   no_length : {n : AsnTag} {c : Bool} {i : List ℕ} → Identifier n c i → IsFront marked i
   short_length : {n : AsnTag} {c : Bool} {i : List ℕ} (k : ℕ) (xs : List ℕ)
       → Identifier n c i → k ≤ 8 → length xs < k → IsFront marked (i ++ ((128 + k) ∷ xs))
@@ -38,7 +38,8 @@ pub data HasHeaderFault (p : HeaderPlace) : List ℕ → FaultKind → Type 0 wh
   tag_form : (class : Class) (c : Bool) (xs : List ℕ)
       → IsBadGroupStart xs → HasHeaderFault p (lead class c 31 ∷ xs) kind.TagForm
   tag_too_large : (class : Class) (c : Bool) (x : ℕ) (fronts xs : List ℕ)
-      → AreFrontGroups fronts → first (fronts ++ x ∷ []) ≢ 128 → x < 256 → 2 ^ 32 ≤ groups_from 0 (fronts ++ x ∷ [])
+      → AreFrontGroups fronts → leading_octet (fronts ++ x ∷ []) ≢ 128 → x < 256
+      → 2 ^ 32 ≤ groups_from 0 (fronts ++ x ∷ [])
       → HasHeaderFault p (lead class c 31 ∷ (fronts ++ x ∷ xs)) kind.TagTooLarge
   stray_end : {xs : List ℕ} → p.marked ≡ false → HasHeaderFault p (0 ∷ xs) kind.StrayEnd
   half_stray_end : {x : ℕ} {xs : List ℕ} → p.marked ≡ true → x ≢ 0 → HasHeaderFault p (0 ∷ x ∷ xs) kind.StrayEnd

@@ -19,6 +19,7 @@ OneIdentifier = (n : AsnTag) (c : Bool) (xs : List ℕ) → Identifier n c xs �
 
 -- The octets spell the element with definite lengths alone (8.1.3.3). At most `room` constructed elements are nested.
 mutual
+  -- octets that spell the element with definite lengths alone
   pub data IsDefiniteSpelling : ℕ → Element → List ℕ → Type 0 where
     primitive : {room : ℕ} {n : AsnTag} {i l xs : List ℕ}
         → Identifier n false i → Length (length xs) l → IsDefiniteSpelling room (prim n xs) (i ++ (l ++ xs))
@@ -26,6 +27,7 @@ mutual
         → Identifier n true i → Length (length xs) l → AreDefiniteSpellings room es xs
         → IsDefiniteSpelling (suc room) (cons n es) (i ++ (l ++ xs))
 
+  -- octets that spell the elements one after the other, with definite lengths alone
   pub data AreDefiniteSpellings : ℕ → List Element → List ℕ → Type 0 where
     none : {room : ℕ} → AreDefiniteSpellings room [] []
     more : {room : ℕ} {e : Element} {es : List Element} {xs ys : List ℕ}

@@ -11,5 +11,5 @@ abbrev pub inside : AsnTag → Inside
 inside n = record { class = n.class; number = n.number }
 
 -- the invariant of a `Tag`: its number fits 32 bits, and it is not UNIVERSAL 0
-abbrev pub IsNamed : Inside → Type 0
-IsNamed t = IsTag (asn_tag t)
+abbrev pub IsValidInside : Inside → Type 0
+IsValidInside t = IsTag (asn_tag t)

@@ -33,9 +33,11 @@ head kind names target set =
 
 -- ---- counts and failures
 
+-- the line of the number of records that a search found
 unfoldable pub count_line : List (List ℕ) → SetKey → ℤ → List ℕ
 count_line names b n = line (object (head (codes "count") names b.target b.set ++ integer_member (codes "count") n))
 
+-- the line of a failed search
 unfoldable pub failure_line : List (List ℕ) → SetKey → List ℕ
 failure_line names b = line (object (head (codes "failure") names b.target b.set))
 
@@ -64,6 +66,7 @@ diag_members (Ext v) = octets_member (codes "encoding") (encoding diag_rec (Ext 
 abbrev pub place_member : ℤ → List Token
 place_member place = if int_eq place (pos 0) then [] else integer_member (codes "from") place
 
+-- the line of a diagnostic, with its place
 unfoldable pub diag_line : List (List ℕ) → SetKey → ℤ × DiagRec → List ℕ
 diag_line names b x =
     line (object (head (codes "diagnostic") names b.target b.set ++ place_member x.0 ++ diag_members x.1))

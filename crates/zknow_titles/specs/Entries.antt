@@ -23,6 +23,7 @@ use Rattle.zmarc.specs.Years.{year}
 use Rattle.zknow_titles.specs.Diagnostics.{diag_words}
 use Rattle.zknow_titles.specs.Sutrs.{sutrs_line}
 
+-- the texts of an entry of the view for readers: the year, and the line
 pub record EntryText : Type 0 where
   pub year : List ℕ
   pub line : List ℕ

@@ -8,7 +8,7 @@ use Rattle.zmarc.specs.Charsets.{text}
 use Rattle.zmarc.specs.References.{behind_each}
 use Rattle.zmarc.specs.Briefs.{joined, with_piece}
 use Rattle.zmarc.specs.Subfields.{first_given}
-use Rattle.zmarc.specs.Years.{four_digits, first_year, first_year_from}
+use Rattle.zmarc.specs.Years.{four_digits, first_year, first_four_digits}
 
 -- ---- years
 
@@ -22,7 +22,7 @@ unfolding first_year
 later_year octets at h none =
     let next = drop_more octets at 0 h in
     let here : four_digits (get_or octets at 0 ∷ drop (at + 1) octets) ≡ None = ap four_digits (sym next) ∙ none in
-    ap first_year_from next ∙ ap (λ o. option_or o (first_year_from (drop (at + 1) octets))) here
+    ap first_four_digits next ∙ ap (λ o. option_or o (first_four_digits (drop (at + 1) octets))) here
 
 -- ---- fields
 

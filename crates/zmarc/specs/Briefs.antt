@@ -62,15 +62,15 @@ heading Unimarc octets =
     option_or (subfield_in (codes "700") (byte "a") octets) (subfield_in (codes "710") (byte "a") octets)
 
 -- a slash and the main heading; nothing where there is no heading
-abbrev pub behind_slash : Option (List ℕ) → List (List ℕ)
-behind_slash None = []
-behind_slash (Some found) = codes "/" ∷ found ∷ []
+abbrev pub slash_and_heading : Option (List ℕ) → List (List ℕ)
+slash_and_heading None = []
+slash_and_heading (Some found) = codes "/" ∷ found ∷ []
 
 -- where the title does not say who made it: a slash and the main heading
 unfoldable pub maker : Format → List ℕ → List (List ℕ)
 maker format octets =
     if is_some (subfield_in (title_tag format) (maker_code format) octets) then []
-    else behind_slash (heading format octets)
+    else slash_and_heading (heading format octets)
 
 -- ---- the text
 

@@ -31,10 +31,10 @@ unfoldable pub isbn_number : Format → List ℕ → Option (List ℕ)
 isbn_number format octets = first_given isbn_of_field (tagged_fields (isbn_tag format) octets)
 
 -- `ISBN` and the number; nothing where there is no number
-abbrev pub behind_word : Option (List ℕ) → List (List ℕ)
-behind_word None = []
-behind_word (Some number) = codes "ISBN" ∷ number ∷ []
+abbrev pub labelled_isbn : Option (List ℕ) → List (List ℕ)
+labelled_isbn None = []
+labelled_isbn (Some number) = codes "ISBN" ∷ number ∷ []
 
 -- the word and the number, if there is one
 unfoldable pub isbn : Format → List ℕ → List (List ℕ)
-isbn format octets = behind_word (isbn_number format octets)
+isbn format octets = labelled_isbn (isbn_number format octets)

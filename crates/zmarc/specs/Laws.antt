@@ -22,6 +22,7 @@ use Rattle.zmarc.specs.Subfields.{Subfield, subfields}
 abbrev pub IsPrintable : ℕ → Type 0
 IsPrintable x = (0x20 ≤ x) × (x < 0x7F)
 
+-- what holds of texts of MARC records as they are shown
 pub record TextLaws : Type 0 where
   -- of characters in UTF-8 their composed form is shown as it stands, where it is safe
   pub stands : (cs : List ℕ) → All IsScalar cs → All IsSafe (nfc cs)

@@ -66,5 +66,6 @@ marc8_from mode marks [] = without_letter marks
 marc8_from mode marks (x ∷ xs) =
     written (meaning mode x) marks ++ marc8_from (next_mode (meaning mode x)) (next_marks (meaning mode x) marks) xs
 
+-- the characters that octets of MARC-8 stand for, in UTF-8
 unfoldable pub marc8 : List ℕ → List ℕ
 marc8 octets = marc8_from Plain [] octets

@@ -67,6 +67,7 @@ entries len (suc n) octets = take len octets ∷ entries len n (drop len octets)
 
 -- ---- the fields
 
+-- a field of a MARC record: its tag, and its octets
 pub record Field : Type 0 where
   pub tag : List ℕ
   pub octets : List ℕ

@@ -35,6 +35,7 @@ shown_text cs = encode_utf8_all (map shown (filter (λ c. not (is_sort_mark c)) 
 
 -- ---- what safe text is
 
+-- the character is a scalar value and no control character, so a terminal shows it as text
 pub record IsSafe (c : ℕ) : Type 0 where
   pub scalar_value : IsScalar c
   pub no_control : 0x20 ≤ c

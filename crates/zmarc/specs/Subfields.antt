@@ -12,6 +12,7 @@ is_delimiter x = x == 0x1F
 unfoldable pub parts : List ℕ → List (List ℕ)
 parts field = drop 1 (slice_split is_delimiter field)
 
+-- a subfield of a field: its code, and its octets
 pub record Subfield : Type 0 where
   pub code : ℕ
   pub octets : List ℕ

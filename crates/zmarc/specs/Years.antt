@@ -14,13 +14,13 @@ unfoldable pub four_digits : List ℕ → Option (List ℕ)
 four_digits octets = if nat_le 4 (length octets) && is_some (number (take 4 octets)) then Some (take 4 octets) else None
 
 -- the first four digits side by side, at whatever octet they begin
-abbrev pub first_year_from : List ℕ → Option (List ℕ)
-first_year_from [] = None
-first_year_from (x ∷ xs) = option_or (four_digits (x ∷ xs)) (first_year_from xs)
+abbrev pub first_four_digits : List ℕ → Option (List ℕ)
+first_four_digits [] = None
+first_four_digits (x ∷ xs) = option_or (four_digits (x ∷ xs)) (first_four_digits xs)
 
 -- the first four digits that stand side by side
 unfoldable pub first_year : List ℕ → Option (List ℕ)
-first_year octets = first_year_from octets
+first_year octets = first_four_digits octets
 
 -- those of the first subfield of a field that has this code
 abbrev pub year_of_field : ℕ → List ℕ → Option (List ℕ)

@@ -8,7 +8,7 @@ use Rattle.zber.specs.Shown.{HasFault}
 use Rattle.zber.specs.Unfinished.{IsUnfinished}
 use Rattle.zapdu.specs.declared.apdu.Apdu.{Apdu}
 use Rattle.zapdu.specs.declared.apdu.Kind.{Kind}
-use Rattle.zapdu.specs.Writes.{Writes, IsNoApdu, IsMalformed}
+use Rattle.zapdu.specs.Writes.{Writes, IsNoApdu, HasLargestFront}
 use Rattle.zoom.proofs.Uniqueness.{Laws}
 use Rattle.zapdu_lines.specs.Lines.{apdu_text}
 use Rattle.zmeta_commands.specs.Show.{ShownText, nothing_left, apdu, fault, unfinished, no_apdu, malformed}
@@ -24,7 +24,7 @@ End = Result (Unit {0}) Fault
 data Begun (e : Element) (rest : List ℕ) : List ℕ → End → Type 0 where
   written : {text : List ℕ} {end : End} (v : Apdu) → Writes v e → ShownText rest text end → Begun e rest (apdu_text v ++ text) end
   unknown : IsNoApdu e → Begun e rest [] (Err NotApdu)
-  misfit : {kind : Kind} {at : ℕ} → ((v : Apdu) → Writes v e → ⊥) → IsMalformed kind at e → Begun e rest [] (Err (Malformed kind at))
+  misfit : {kind : Kind} {at : ℕ} → ((v : Apdu) → Writes v e → ⊥) → HasLargestFront kind at e → Begun e rest [] (Err (Malformed kind at))
 
 no_message : (xs rest : List ℕ) (e : Element) → xs ≡ [] → HasFirstMessage MESSAGE_LIMIT xs e rest → ⊥
 no_message xs rest e q b = absurd (omega (arith, rest_shorter MESSAGE_LIMIT xs rest e b, ap length q))
@@ -39,7 +39,7 @@ begun l xs rest text e end b (unfinished m u) = absurd (u.no_message e rest b)
 begun l xs rest text e end b (no_apdu {rest = r} {e = d} c n) = unknown (subst IsNoApdu (l.answer.one_message MESSAGE_LIMIT xs d e r rest c b).0 n)
 begun l xs rest text e end b (malformed {rest = r} {e = d} {kind = k} {at = a} c n m) =
     let same = (l.answer.one_message MESSAGE_LIMIT xs d e r rest c b).0 in
-    misfit (subst (λ z. (v : Apdu) → Writes v z → ⊥) same n) (subst (IsMalformed k a) same m)
+    misfit (subst (λ z. (v : Apdu) → Writes v z → ⊥) same n) (subst (HasLargestFront k a) same m)
 
 -- how octets that begin with no message end
 data Halted (xs : List ℕ) : End → Type 0 where

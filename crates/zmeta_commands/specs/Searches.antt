@@ -44,9 +44,10 @@ abbrev pub terms_query : List (List ℕ × List ℕ) → Option (List ℕ)
 terms_query [] = None
 terms_query (term ∷ terms) = Some (joined_terms (term ∷ terms))
 
-abbrev pub query_of : Option (List ℕ) → List (List ℕ × List ℕ) → Option (List ℕ)
-query_of None terms = terms_query terms
-query_of (Some text) terms = Some text
+-- the query that is given, else the one of the terms
+abbrev pub chosen_query : Option (List ℕ) → List (List ℕ × List ℕ) → Option (List ℕ)
+chosen_query None terms = terms_query terms
+chosen_query (Some text) terms = Some text
 
 -- the texts of the copy
 abbrev pub copied_texts : SearchCopy → SearchTexts
@@ -60,7 +61,7 @@ copied_texts c = record {
 -- what the options put to every question
 abbrev pub search_of : SearchOptions → SearchTexts
 search_of s = record {
-  query = query_of (now_of s.query) (terms_of s);
+  query = chosen_query (now_of s.query) (terms_of s);
   records = now_of s.records;
   elements = now_of s.elements;
   syntax = now_of s.syntax;

@@ -9,7 +9,7 @@ use Rattle.zber.specs.Shown.{HasFault}
 use Rattle.zber.specs.Unfinished.{IsUnfinished}
 use Rattle.zapdu.specs.declared.apdu.Apdu.{Apdu}
 use Rattle.zapdu.specs.declared.apdu.Kind.{Kind}
-use Rattle.zapdu.specs.Writes.{Writes, IsNoApdu, IsMalformed}
+use Rattle.zapdu.specs.Writes.{Writes, IsNoApdu, HasLargestFront}
 use Rattle.zmeta_commands.specs.Digits.{octets_of}
 use Rattle.zapdu_lines.specs.Lines.{apdu_text}
 use Rattle.zmeta_commands.specs.Faults.{as_done}
@@ -31,7 +31,7 @@ pub data ShownText : List ℕ → List ℕ → Result (Unit {0}) Fault → Type 
   no_apdu : {xs rest : List ℕ} {e : Element} → HasFirstMessage MESSAGE_LIMIT xs e rest → IsNoApdu e
       → ShownText xs [] (Err NotApdu)
   malformed : {xs rest : List ℕ} {e : Element} {kind : Kind} {at : ℕ}
-      → HasFirstMessage MESSAGE_LIMIT xs e rest → ((v : Apdu) → Writes v e → ⊥) → IsMalformed kind at e
+      → HasFirstMessage MESSAGE_LIMIT xs e rest → ((v : Apdu) → Writes v e → ⊥) → HasLargestFront kind at e
       → ShownText xs [] (Err (Malformed kind at))
 
 -- octets have only one text and one end

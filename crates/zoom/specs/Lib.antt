@@ -42,6 +42,7 @@ pub use Rattle.zoom_pool.specs.Steering
 pub use Rattle.zoom_pool.specs.Steps
 pub use Rattle.zoom_pool.specs.declared.state.State
 pub use Rattle.zoom_questions.specs.Askable
+pub use Rattle.zoom_questions.specs.declared.question.Question
 pub use Rattle.zoom_questions.specs.NewTargets
 pub use Rattle.zoom_sim.specs.Run
 pub use Rattle.zoom_sim.specs.RunCatalogue

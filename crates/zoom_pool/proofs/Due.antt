@@ -346,7 +346,7 @@ module _ (orderly : (s : Settings) (l : Log) → IsOrderly (past s l)) (laws : D
         ap (λ l. past_count (positions ranges) (search_of l 1)) searches
         ∙ none_past h.set.found h.count (positions ranges) h.set.counts (λ x i.
         let b = bounds.found e.wanted e.step (replies_in events) (positions ranges) x k.wanted k.steps is_due.0 i in
-        let same : count_in (replies_in events) ≡ h.count = ap plan.found h.found in
+        let same : count_in (replies_in events) ≡ h.count = ap plan.count_of_reply h.found in
         let hi = b.1 in
         (b.0, omega (arith, hi, same)))
 

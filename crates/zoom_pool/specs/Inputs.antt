@@ -10,7 +10,7 @@ use Rattle.zber.specs.Laws.{AreMessages}
 use Rattle.zapdu.specs.declared.apdu.Apdu.{Apdu}
 use Rattle.zapdu.specs.declared.apdu.ApduError.{ApduError}
 use Rattle.zapdu.specs.declared.apdu.ApduError.TheVariants as errors
-use Rattle.zapdu.specs.Writes.{Writes, IsNoApdu, IsMalformed}
+use Rattle.zapdu.specs.Writes.{Writes, IsNoApdu, HasLargestFront}
 
 -- What a Take finds: a connection that was stopped before; a message; or a message that is no APDU or is
 -- malformed. Or it finds a fault of the framing; so many octets that are no whole message; or no octets.
@@ -25,7 +25,7 @@ pub data Input : Type 0 where
 -- the element is no APDU, or is malformed, with this error
 abbrev pub IsForeign : Element → ApduError → Type 0
 IsForeign e errors.NotApdu = IsNoApdu e
-IsForeign e (errors.Malformed kind at) = ((v : Apdu) → Writes v e → ⊥) × IsMalformed kind at e
+IsForeign e (errors.Malformed kind at) = ((v : Apdu) → Writes v e → ⊥) × HasLargestFront kind at e
 IsForeign e errors.Memory = ⊥
 
 -- the element is read as this input

@@ -48,7 +48,7 @@ pub enum Call {
 
 /// Makes the call on the origin, and returns what it sends. A refused call leaves the origin unchanged.
 pub(crate) fn sent_for(origin: &mut Origin, call: &Call) -> Result<Sent, CallRefused>
-    ensures answer { IsResultOfCall origin.old (call_of call.now) result }
+    ensures returned { IsResultOfCall origin.old (call_of call.now) result }
     ensures after { OriginAfterCall origin.old (call_of call.now) result origin.new }
     ensures framed { IfOk result IsReadBack }
     ensures err { OnErr result (origin.new ≡ origin.old) }

@@ -83,7 +83,7 @@ impl Connection {
     /// Makes a call, and puts its request behind the octets that wait. Room for the request is reserved first, so
     /// that a call is never refused once the origin has admitted it. A refused call changes nothing.
     pub(crate) fn call(&mut self, call: &Call) -> Result<(), CallRefused>
-        ensures answer { IsLinkCallResult (call_of call.now) result self.old }
+        ensures returned { IsLinkCallResult (call_of call.now) result self.old }
         ensures after { IsMadeCall result
             → LinkRecorded (Called (call_of call.now)) (λ p. after_call p (call_of call.now)) self.old self.new }
         ensures put { OnOk result ((p : Transcript)

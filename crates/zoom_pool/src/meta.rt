@@ -188,7 +188,7 @@ impl Meta {
     pub fn take(&mut self, c: u32) -> Result<Step, TakeError>
         requires { c < length self.old.pool.connections }
         // if memory is found
-        ensures answer { IsTakeResult c self.old.pool result }
+        ensures returned { IsTakeResult c self.old.pool result }
         ensures after { IsDone result → MetaTakeStep c self.old self.new }
         // if no memory is found
         ensures memory { result ≡ Err TakeError.Memory → MetaIncompleteTake c self.old self.new }

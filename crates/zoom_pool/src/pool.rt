@@ -92,7 +92,7 @@ impl Pool {
     pub fn call(&mut self, c: u32, call: &Call) -> Result<(), CallRefused>
         requires { c < length self.old.connections }
         // if memory is found
-        ensures answer { IsCallResult c (call_of call.now) self.old result }
+        ensures returned { IsCallResult c (call_of call.now) self.old result }
         ensures after { IsMadeCall result → Recorded c (Called (call_of call.now)) self.old self.new }
         // on success
         ensures put { OnOk result (IsRequestPut c (call_of call.now) self.old self.new) }
@@ -127,7 +127,7 @@ impl Pool {
     pub fn take(&mut self, c: u32) -> Result<Step, TakeError>
         requires { c < length self.old.connections }
         // if memory is found
-        ensures answer { IsTakeResult c self.old result }
+        ensures returned { IsTakeResult c self.old result }
         ensures after { IsDone result → TakeStep c self.old self.new }
         // if no memory is found
         ensures memory { result ≡ Err TakeError.Memory → IncompleteTake c self.old self.new }
@@ -146,7 +146,7 @@ impl Pool {
     pub(crate) fn take_outcome(&mut self, c: u32) -> Result<Outcome, TakeError>
         requires { c < length self.old.connections }
         // if memory is found
-        ensures answer { IsTakeOutcome c self.old result }
+        ensures returned { IsTakeOutcome c self.old result }
         ensures after { IsDone result → TakeStep c self.old self.new }
         // if no memory is found
         ensures memory { result ≡ Err TakeError.Memory → IncompleteTake c self.old self.new }

@@ -59,7 +59,7 @@ impl ResultSet {
     pub fn present(self, pool: &mut Pool, op: u32, start: i64, n: i64) -> Result<(), CallRefused>
         requires { self.c < length pool.old.connections }
         // if memory is found
-        ensures answer { IsCallResult self.c (Present op self.set (one_range start n)) pool.old result }
+        ensures returned { IsCallResult self.c (Present op self.set (one_range start n)) pool.old result }
         ensures after { IsMadeCall result
             → Recorded self.c (Called (Present op self.set (one_range start n))) pool.old pool.new }
         // on success
@@ -85,7 +85,7 @@ impl ResultSet {
     ) -> Result<(), CallRefused>
         requires { self.c < length pool.old.connections }
         // if memory is found
-        ensures answer { IsCallResult self.c (Present op self.set ranges) pool.old result }
+        ensures returned { IsCallResult self.c (Present op self.set ranges) pool.old result }
         ensures after { IsMadeCall result → Recorded self.c (Called (Present op self.set ranges)) pool.old pool.new }
         // on success
         ensures put { OnOk result (IsRequestPut self.c (Present op self.set ranges) pool.old pool.new) }

@@ -60,7 +60,7 @@ impl Connection {
         requires sound { self.old.framer.fault ≡ None }
         requires none { self.old.held ≡ None }
         // the result
-        ensures answer { (p : Transcript) → AreConsistent p self.old → is_stopped (state_at p) ≡ false
+        ensures returned { (p : Transcript) → AreConsistent p self.old → is_stopped (state_at p) ≡ false
             → IsUnfinished MESSAGE_LIMIT self.old.framer.octets → EmptyTake p result self.new }
         ensures done { IsDone result }
         // what is unchanged
@@ -117,7 +117,7 @@ fn ended_state(closing: bool) -> State
 
 /// Returns the message that is kept, or else the framer's next one.
 fn next_message(held: &mut Option<Node>, framer: &mut Framer) -> Result<Option<Node>, FrameError>
-    ensures answer { (p : Transcript) → is_going p.stop ≡ true → FramerAfter p held.old framer.old.stream
+    ensures returned { (p : Transcript) → is_going p.stop ≡ true → FramerAfter p held.old framer.old.stream
         → NextMessage p result held.new framer.new.stream }
     ensures none { held.new ≡ None }
     ensures idle { IfOk result

@@ -55,5 +55,6 @@ abbrev pub AreAttempts
     : {E : Type 0} → (ℕ → Option (List ℕ)) → List (Option E) → (List ℕ → E → Type 0) → Type 0
 AreAttempts names attempts IsFor = (c : ℕ) → IsFitIf (names c) (halves_at attempts c) IsFor
 
+-- Attempts that each fit the name of their own question before do so after.
 abbrev pub AttemptsStep : {E : Type 0} → List (Option E) → List (Option E) → (List ℕ → E → Type 0) → Type 0
 AttemptsStep old new IsFor = (names : ℕ → Option (List ℕ)) → AreAttempts names old IsFor → AreAttempts names new IsFor

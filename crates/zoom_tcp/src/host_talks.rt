@@ -60,9 +60,11 @@ pub(crate) fn talk_with_all<A: Reach<R, W> + Drop, R: NonBlocking + Drop, W: Sin
 ) -> Result<(), AllocError>
     requires few { length meta.old.pool.connections < 2 ^ 32 }
     requires equal { length talks.old ≡ length meta.old.pool.connections }
+    // the talks, if memory is found
     ensures talks { OnOk result (HostsStep A.IsFor A.IsOwn (host_view R.state R.polls W.state) 0 1000000000 talks.old
         talks.new meta.old meta.new) }
     ensures over { OnOk result (AreHostsOver (host_view R.state R.polls W.state) talks.new) }
+    // in each case
     ensures size { length meta.new.pool.connections ≡ length meta.old.pool.connections }
     ensures hosts { length talks.new ≡ length talks.old }
 {
@@ -209,9 +211,11 @@ fn end_all<A: Reach<R, W> + Drop, R: NonBlocking + Drop, W: Sink + Drop>(
 ) -> Result<(), AllocError>
     requires few { length meta.old.pool.connections < 2 ^ 32 }
     requires equal { length talks.old ≡ length meta.old.pool.connections }
+    // the last step of each, if memory is found
     ensures ends { OnOk result ((n : ℕ) → n ≤ 1000000000 → HostsStep A.IsFor A.IsOwn
         (host_view R.state R.polls W.state) n n talks.old talks.new meta.old meta.new) }
     ensures over { OnOk result (AreHostsOver (host_view R.state R.polls W.state) talks.new) }
+    // in each case
     ensures size { length meta.new.pool.connections ≡ length meta.old.pool.connections }
     ensures hosts { length talks.new ≡ length talks.old }
 {

@@ -11,7 +11,7 @@ use Rattle.zorigin.specs.declared.answer.What.{What}
 use Rattle.zorigin.specs.declared.answer.What.TheVariants as what
 use Rattle.zorigin.specs.declared.refusal.Refused.TheVariants as refused
 use Rattle.zplan.specs.Ranges.{positions}
-use Rattle.zorigin.specs.Fitting.{records_in, diagnostics_in, is_empty, has_fragment, IsRecordCount, IsFitSearchReply, IsFitPresentReply, IsFitReply, is_number, is_more_than, count_mismatch, bad_number, bad_search, bad_present, search_fault, present_fault, fault_of}
+use Rattle.zorigin.specs.Fitting.{records_in, diagnostics_in, is_empty, has_fragment, IsRecordCount, IsFitSearchReply, IsFitPresentReply, IsFitReply, is_number, is_more_than, count_mismatch, has_negative_count, bad_search, bad_present, search_fault, present_fault, fault_of}
 
 -- ---- the rows
 
@@ -78,7 +78,7 @@ both_false a b h k = ap (λ x. x || b) h ∙ k
 
 -- ---- replies
 
-search_so : (v : SearchResponse) (a b c : Bool) → count_mismatch v.records v.number_of_records_returned ≡ a → bad_number v ≡ b → bad_search v ≡ c
+search_so : (v : SearchResponse) (a b c : Bool) → count_mismatch v.records v.number_of_records_returned ≡ a → has_negative_count v ≡ b → bad_search v ≡ c
     → cond a (Some refused.CountMismatch) (cond b (Some refused.BadNumber) (cond c (Some refused.BadShape) None)) ≡ None → IsFitSearchReply v
 search_so v true b c ea eb ec h = absurd (cc)
 search_so v false true c ea eb ec h = absurd (cc)
@@ -95,7 +95,7 @@ search_so v false false false ea eb ec h =
 so_search : (v : SearchResponse) → IsFitSearchReply v → search_fault v ≡ None
 so_search v f =
     let a : count_mismatch v.records v.number_of_records_returned ≡ false = so_counted v.records v.number_of_records_returned f.counted in
-    let b : bad_number v ≡ false = so_positive v.result_count f.positive in
+    let b : has_negative_count v ≡ false = so_positive v.result_count f.positive in
     let c : bad_search v ≡ false = both_false (is_more_than (length (records_in v.records)) v.result_count) (has_fragment v.records) (so_within (length (records_in v.records)) v.result_count f.within) f.entire in
     λ i. cond (a i) (Some refused.CountMismatch) (cond (b i) (Some refused.BadNumber) (cond (c i) (Some refused.BadShape) None))
 
@@ -156,7 +156,7 @@ fitting what.Init (apdus.Close v) h = absurd (cc)
 fitting what.Search (apdus.InitRequest v) h = absurd (cc)
 fitting what.Search (apdus.InitResponse v) h = absurd (cc)
 fitting what.Search (apdus.SearchRequest v) h = absurd (cc)
-fitting what.Search (apdus.SearchResponse v) h = search_so v (count_mismatch v.records v.number_of_records_returned) (bad_number v) (bad_search v) refl refl refl h
+fitting what.Search (apdus.SearchResponse v) h = search_so v (count_mismatch v.records v.number_of_records_returned) (has_negative_count v) (bad_search v) refl refl refl h
 fitting what.Search (apdus.PresentRequest v) h = absurd (cc)
 fitting what.Search (apdus.PresentResponse v) h = absurd (cc)
 fitting what.Search (apdus.Close v) h = absurd (cc)

@@ -92,8 +92,8 @@ abbrev pub count_mismatch : Option Records → ℤ → Bool
 count_mismatch records n = is_empty (diagnostics_in records) && not (is_number n (length (records_in records)))
 
 -- resultCount is negative
-abbrev pub bad_number : SearchResponse → Bool
-bad_number v = int_lt v.result_count (pos 0)
+abbrev pub has_negative_count : SearchResponse → Bool
+has_negative_count v = int_lt v.result_count (pos 0)
 
 -- there are more records than resultCount, or a fragment is among them
 abbrev pub bad_search : SearchResponse → Bool
@@ -109,7 +109,7 @@ bad_present asked v =
 abbrev pub search_fault : SearchResponse → Option Refused
 search_fault v = first_row (
     (count_mismatch v.records v.number_of_records_returned, refused.CountMismatch)
-    ∷ (bad_number v, refused.BadNumber)
+    ∷ (has_negative_count v, refused.BadNumber)
     ∷ (bad_search v, refused.BadShape)
     ∷ [])
 

@@ -7,6 +7,7 @@ use Rattle.zorigin.specs.declared.state.Searched.{Searched}
 use Rattle.zorigin.specs.Ranges.{are_ranges}
 use Rattle.zorigin.specs.Sending.{is_unsendable, init_request, search_request, present_request, close_request}
 
+-- which requests are short enough to be sent
 pub record SendableLaws : Type 0 where
   -- an Init, if the origin's name has at most 2,000,000 octets
   pub init : (settings : Settings) → length settings.name ≤ 2000000 → is_unsendable (init_request settings) ≡ false

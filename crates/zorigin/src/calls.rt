@@ -53,7 +53,7 @@ impl Origin {
     }
 
     fn make_init(&mut self) -> Result<Sent, CallRefused>
-        ensures answer { IsGivenResult (call_result self.old Init) result }
+        ensures returned { IsGivenResult (call_result self.old Init) result }
         ensures after { IsMadeCall result → self.new ≡ called_at self.old Init }
         ensures memory { result ≡ Err CallRefused.Memory → early_refusal self.old Init ≡ None }
         ensures framed { IfOk result IsReadBack }
@@ -73,7 +73,7 @@ impl Origin {
     }
 
     fn make_search(&mut self, op: u32, set: u32, ask: &Ask) -> Result<Sent, CallRefused>
-        ensures answer { IsGivenResult (call_result self.old (Search op set ask.now)) result }
+        ensures returned { IsGivenResult (call_result self.old (Search op set ask.now)) result }
         ensures after { IsMadeCall result → self.new ≡ called_at self.old (Search op set ask.now) }
         ensures memory { result ≡ Err CallRefused.Memory → early_refusal self.old (Search op set ask.now) ≡ None }
         ensures framed { IfOk result IsReadBack }
@@ -93,7 +93,7 @@ impl Origin {
     }
 
     fn make_present(&mut self, op: u32, set: u32, ranges: &[Range]) -> Result<Sent, CallRefused>
-        ensures answer { IsGivenResult (call_result self.old (Present op set ranges.now)) result }
+        ensures returned { IsGivenResult (call_result self.old (Present op set ranges.now)) result }
         ensures after { IsMadeCall result → self.new ≡ called_at self.old (Present op set ranges.now) }
         ensures memory { result ≡ Err CallRefused.Memory → early_refusal self.old (Present op set ranges.now) ≡ None }
         ensures framed { IfOk result IsReadBack }
@@ -113,7 +113,7 @@ impl Origin {
     }
 
     fn make_close(&mut self) -> Result<Sent, CallRefused>
-        ensures answer { IsGivenResult (call_result self.old Close) result }
+        ensures returned { IsGivenResult (call_result self.old Close) result }
         ensures after { IsMadeCall result → self.new ≡ called_at self.old Close }
         ensures memory { result ≡ Err CallRefused.Memory → early_refusal self.old Close ≡ None }
         ensures framed { IfOk result IsReadBack }
@@ -134,7 +134,7 @@ impl Origin {
     /// Returns `WrongState` if the state is not Fresh, `Unsendable` if the name is too long, and `Memory` if no memory
     /// is found. The origin is then unchanged.
     pub fn init(&mut self) -> Result<Sent, CallRefused>
-        ensures answer { IsResultOfCall self.old Init result }
+        ensures returned { IsResultOfCall self.old Init result }
         ensures after { OriginAfterCall self.old Init result self.new }
         ensures memory { result ≡ Err CallRefused.Memory → IsAdmissible self.old Init }
         ensures framed { IfOk result IsReadBack }
@@ -148,7 +148,7 @@ impl Origin {
     ///
     /// `CallRefused` lists when the call is refused, in its order. The origin is then unchanged.
     pub fn search(&mut self, op: u32, set: u32, ask: &Ask) -> Result<Sent, CallRefused>
-        ensures answer { IsResultOfCall self.old (Search op set ask.now) result }
+        ensures returned { IsResultOfCall self.old (Search op set ask.now) result }
         ensures after { OriginAfterCall self.old (Search op set ask.now) result self.new }
         ensures memory { result ≡ Err CallRefused.Memory → IsAdmissible self.old (Search op set ask.now) }
         ensures framed { IfOk result IsReadBack }
@@ -162,7 +162,7 @@ impl Origin {
     ///
     /// `CallRefused` lists when the call is refused, in its order. The origin is then unchanged.
     pub fn present(&mut self, op: u32, set: u32, start: i64, n: i64) -> Result<Sent, CallRefused>
-        ensures answer { IsResultOfCall self.old (Present op set (one_range start n)) result }
+        ensures returned { IsResultOfCall self.old (Present op set (one_range start n)) result }
         ensures after { OriginAfterCall self.old (Present op set (one_range start n)) result self.new }
         ensures memory { result ≡ Err CallRefused.Memory → IsAdmissible self.old (Present op set (one_range start n)) }
         ensures framed { IfOk result IsReadBack }
@@ -182,7 +182,7 @@ impl Origin {
         set: u32,
         ranges: &[Range],
     ) -> Result<Sent, CallRefused>
-        ensures answer { IsResultOfCall self.old (Present op set ranges.now) result }
+        ensures returned { IsResultOfCall self.old (Present op set ranges.now) result }
         ensures after { OriginAfterCall self.old (Present op set ranges.now) result self.new }
         ensures memory { result ≡ Err CallRefused.Memory → IsAdmissible self.old (Present op set ranges.now) }
         ensures framed { IfOk result IsReadBack }
@@ -197,7 +197,7 @@ impl Origin {
     /// Returns `WrongState` if the state is not Ready, and `Memory` if no memory is found. The origin is then
     /// unchanged.
     pub fn close(&mut self) -> Result<Sent, CallRefused>
-        ensures answer { IsResultOfCall self.old Close result }
+        ensures returned { IsResultOfCall self.old Close result }
         ensures after { OriginAfterCall self.old Close result self.new }
         ensures memory { result ≡ Err CallRefused.Memory → IsAdmissible self.old Close }
         ensures framed { IfOk result IsReadBack }

@@ -1,7 +1,7 @@
 //! Whether a reply fits an operation.
 ghost use Rattle.std.specs.Prelude.{◌≡◌, not, length};
 ghost use Rattle.zplan.specs.Ranges.{positions};
-ghost use Rattle.zorigin.specs.Fitting.{records_in, diagnostics_in, is_empty, is_fragment, has_fragment, is_number, is_more_than, count_mismatch, bad_number, bad_search, bad_present, search_fault, present_fault, fault_of};
+ghost use Rattle.zorigin.specs.Fitting.{records_in, diagnostics_in, is_empty, is_fragment, has_fragment, is_number, is_more_than, count_mismatch, has_negative_count, bad_search, bad_present, search_fault, present_fault, fault_of};
 
 use crate::answer::What;
 use crate::range::exceed_positions;

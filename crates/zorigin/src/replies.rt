@@ -146,7 +146,7 @@ impl Origin {
 
     /// Returns the verdict on a reply with this reference id. The answer has copies of the operation and of the reply.
     fn against(&self, id: &Option<Bytes>, reply: &Apdu) -> Result<Taken, Refused>
-        ensures answer { IsGivenVerdict (against (named self.now id.now) reply.now) result }
+        ensures returned { IsGivenVerdict (against (named self.now id.now) reply.now) result }
         ensures copied { result ≡ Err Refused.Memory → HasAnswer (against (named self.now id.now) reply.now) }
         ensures showable { IfOk result (HasFitAnswer reply.now) }
     {
@@ -165,7 +165,7 @@ impl Origin {
     /// Returns the verdict on an APDU. The answer has copies of the operation and of the APDU.
     #[tactic(auto, unfolding(crate::specs::Replies::verdict))]
     fn verdict(&self, reply: &Apdu) -> Result<Taken, Refused>
-        ensures answer { IsGivenVerdict (verdict self.now reply.now) result }
+        ensures returned { IsGivenVerdict (verdict self.now reply.now) result }
         ensures copied { result ≡ Err Refused.Memory → HasAnswer (verdict self.now reply.now) }
         ensures showable { IfOk result (HasFitAnswer reply.now) }
     {
@@ -247,7 +247,7 @@ impl Origin {
     /// `Refused` lists when the APDU is refused, in its order. Only the copy of an accepted reply can return `Memory`.
     /// Give the result to `accept`, before any other call changes the origin.
     pub fn judge(&self, reply: &Apdu) -> Result<Taken, Refused>
-        ensures answer { IsResultOfTake self.now reply.now result }
+        ensures returned { IsResultOfTake self.now reply.now result }
         ensures copied { result ≡ Err Refused.Memory → IsAcceptedReply self.now reply.now }
         ensures showable { IfOk result (HasFitAnswer reply.now) }
     {
@@ -269,7 +269,7 @@ impl Origin {
 
     /// Returns what `take` would return for this APDU, and changes nothing. The answer's reply is a copy of the APDU.
     pub fn peek(&self, reply: &Apdu) -> Result<Taken, Refused>
-        ensures answer { IsResultOfTake self.now reply.now result }
+        ensures returned { IsResultOfTake self.now reply.now result }
         ensures copied { result ≡ Err Refused.Memory → IsAcceptedReply self.now reply.now }
         ensures showable { IfOk result (HasFitAnswer reply.now) }
     {
@@ -279,7 +279,7 @@ impl Origin {
     /// Takes an APDU that came from the target (Z39.50-2003, 3.4). It returns what `judge` returns, and changes the
     /// origin as `accept` does.
     pub fn take(&mut self, reply: &Apdu) -> Result<Taken, Refused>
-        ensures answer { IsResultOfTake self.old reply.now result }
+        ensures returned { IsResultOfTake self.old reply.now result }
         ensures copied { result ≡ Err Refused.Memory → IsAcceptedReply self.old reply.now }
         ensures showable { IfOk result (HasFitAnswer reply.now) }
         ensures after { OriginAfterTake self.old reply.now result self.new }

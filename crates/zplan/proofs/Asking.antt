@@ -4,7 +4,7 @@ use Rattle.std.proofs.lemmas.List.{take-append-drop}
 use Rattle.std.specs.Prelude.{map}
 use Rattle.std.specs.List.{concat}
 use Rattle.zplan.specs.Positions.{up_to, cut_of, presents, first_of, IsIn, AreAscending, IsWanted}
-use Rattle.zplan.specs.Plan.{Operation, Init, Search, Present, Reply, InitReply, SearchReply, PresentReply, number, Replies, IsPlanned, search, cut, rest, IsMadeDue, new_search, new_cut, new_rest, PlanEvent, RequestSent, ReplyAccepted, CloseSent, replies_in, asked_in, firsts, found, count_in, IsDriven, HasRecordsForEach, IsShownPosition}
+use Rattle.zplan.specs.Plan.{Operation, Init, Search, Present, Reply, InitReply, SearchReply, PresentReply, number, Replies, IsPlanned, search, cut, rest, IsMadeDue, new_search, new_cut, new_rest, PlanEvent, RequestSent, ReplyAccepted, CloseSent, replies_in, asked_in, firsts, count_of_reply, count_in, IsDriven, HasRecordsForEach, IsShownPosition}
 use Rattle.zplan.specs.Cutting.{deal}
 use Rattle.zplan.proofs.Cuts.{concat_deal, cut_dealt, dealt_cut, some_deal, wanted_ascend, in_left, in_right, in_either}
 use Rattle.zplan.proofs.Ends.{IsEnd, IsTail, from_in, tail_has, tail_self, tail_end, own_end, end_size, end_same, tail_one, whole_end, tails_meet}
@@ -49,7 +49,7 @@ module _ (wanted : List ℕ) (last : ℕ) (replies : Replies) where
       → i * suc last < length (up_to count wanted) → IsIn l (presents t (cut_of (suc last) (up_to count wanted) i)) → IsIn l (pieces wanted last replies)
   cut_piece t count i l o h lt x =
       let e : t ≡ opened (replies Init) = sym (ap opened o) in
-      let f : count ≡ count_in replies = sym (ap found h) in
+      let f : count ≡ count_in replies = sym (ap count_of_reply h) in
       subst (λ b. IsIn l (deal b last last (up_to (count_in replies) wanted))) e (subst (λ n. IsIn l (deal t last last (up_to n wanted))) f (cut_dealt t last i (up_to count wanted) l lt x))
 
   pub asked_tail : (l : List ℕ) → IsPlanned wanted (suc last) replies (Present l) → IsTail l (pieces wanted last replies)

@@ -88,16 +88,16 @@ firsts (Search ∷ asks) = firsts asks
 firsts (Present l ∷ asks) = first_of l ∷ firsts asks
 
 -- the count in a reply, 0 if it has none
-abbrev pub found : Option Reply → ℕ
-found None = 0
-found (Some (InitReply b t)) = 0
-found (Some (SearchReply None)) = 0
-found (Some (SearchReply (Some count))) = count
-found (Some (PresentReply k)) = 0
+abbrev pub count_of_reply : Option Reply → ℕ
+count_of_reply None = 0
+count_of_reply (Some (InitReply b t)) = 0
+count_of_reply (Some (SearchReply None)) = 0
+count_of_reply (Some (SearchReply (Some count))) = count
+count_of_reply (Some (PresentReply k)) = 0
 
 -- the count that the reply to the search has, or 0
 abbrev pub count_in : Replies → ℕ
-count_in replies = found (replies Search)
+count_in replies = count_of_reply (replies Search)
 
 -- Close was sent
 abbrev pub HasClosed : List PlanEvent → Type 0

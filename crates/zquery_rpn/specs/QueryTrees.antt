@@ -15,5 +15,5 @@ rpn_tree (Not' p a q b) = Of Not (rpn_tree a) (rpn_tree b)
 rpn_tree (Prox' e p a q b) = OfProx e (rpn_tree a) (rpn_tree b)
 
 -- a query without the addresses of its parts
-abbrev pub query_of : Inside → RpnQuery
-query_of q = record { attr_set = q.attr_set; root = rpn_tree q.root }
+abbrev pub rpn_query : Inside → RpnQuery
+rpn_query q = record { attr_set = q.attr_set; root = rpn_tree q.root }

@@ -80,9 +80,9 @@ impl Model for Query {
 
     ghost coded = { coded_query };
 
-    ghost use Rattle.zquery_rpn.specs.QueryTrees.{query_of};
+    ghost use Rattle.zquery_rpn.specs.QueryTrees.{rpn_query};
 
-    ghost view = { query_of };
+    ghost view = { rpn_query };
 }
 
 impl TermValue {

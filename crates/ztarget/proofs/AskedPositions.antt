@@ -12,7 +12,7 @@ use Rattle.zplan.specs.Ranges.{natural, positions_of, positions}
 use Rattle.ztarget.specs.declared.database.Database.{Database}
 use Rattle.ztarget.specs.declared.found.Hit.{Hit}
 use Rattle.ztarget.specs.Keeping.{AreHits, found_at, all_found_at, records_at_hits}
-use Rattle.ztarget.specs.Showing.{shown_record, size_of, fitting, used_after, fitting_after, used_by, held}
+use Rattle.ztarget.specs.Showing.{shown_record, size_of, fitting, used_after, fitting_after, used_by, records_held}
 use Rattle.ztarget.specs.Positions.{is_in_set, are_in_set, at_positions}
 
 pub left_more : (ranges : List Range) (i : ℕ) (x : Range) → i < length ranges → x ≡ get_or ranges i x → positions (drop i ranges) ≡ positions_of x ++ positions (drop (i + 1) ranges)
@@ -99,7 +99,7 @@ fitting_both size used (x ∷ xs) ys =
       | false ↦ refl
     ]
 
-pub held_both : (size : ℕ) (xs ys : List Record) → 1 ≤ length xs → held size (xs ++ ys) ≡ held size xs ++ fitting_after size (used_by size xs) ys
+pub held_both : (size : ℕ) (xs ys : List Record) → 1 ≤ length xs → records_held size (xs ++ ys) ≡ records_held size xs ++ fitting_after size (used_by size xs) ys
 held_both size [] ys h = absurd (omega arith)
 held_both size (x ∷ xs) ys h = ap (λ l. x ∷ l) (fitting_both size (size_of x) xs ys)
 
@@ -183,14 +183,14 @@ module _ (size : ℕ) (asked : Option (List ℕ)) (databases : List Database) wh
   -- the first range and then the others
   pub held_first : (hits : List Hit) (ranges : List Range) (x : Range) (first after : List Record) (used : Option ℕ) (due : List Hit)
       → 0 < length ranges → x ≡ get_or ranges 0 x → is_in_set (natural x.start) (natural x.n) (length hits) ≡ true → due ≡ at_positions hits (positions_of x)
-      → first ≡ held size (records_at_hits size asked databases due) → used ≡ used_by size (records_at_hits size asked databases due)
+      → first ≡ records_held size (records_at_hits size asked databases due) → used ≡ used_by size (records_at_hits size asked databases due)
       → after ≡ first ++ fitting_after size used (records_at_hits size asked databases (at_positions hits (positions (drop 1 ranges))))
-      → after ≡ held size (records_at_hits size asked databases (at_positions hits (positions ranges)))
+      → after ≡ records_held size (records_at_hits size asked databases (at_positions hits (positions ranges)))
   held_first hits ranges x first after used due l e within d h u a =
       let xs = records_at_hits size asked databases due in
       let ys = records_at_hits size asked databases (at_positions hits (positions (drop 1 ranges))) in
       let some : 1 ≤ length xs = omega (arith, records_many due, ap length d, some_at hits (natural x.start) (natural x.n) within) in
-      a ∙ (λ j. h j ++ fitting_after size (u j) ys) ∙ sym (held_both size xs ys some) ∙ ap (held size) (sym (at_more hits ranges 0 x due l e d))
+      a ∙ (λ j. h j ++ fitting_after size (u j) ys) ∙ sym (held_both size xs ys some) ∙ ap (records_held size) (sym (at_more hits ranges 0 x due l e d))
 
 -- entries stand at the hits at the positions
 pub stand_at : (databases : List Database) (hits : List Hit) (ps : List ℕ) → AreHits databases hits → AreHits databases (at_positions hits ps)

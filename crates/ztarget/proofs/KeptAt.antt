@@ -10,7 +10,7 @@ use Rattle.ztarget.specs.declared.found.Hit.{Hit}
 use Rattle.ztarget.specs.declared.searched.Numbered.{Numbered}
 use Rattle.ztarget.specs.Counting.{kept_in, kept_by}
 use Rattle.ztarget.specs.Keeping.{hit, entry_in, entry_at, AreHits, no_entry, found_at, all_found_at, AreAt, IsNumberedDatabase, databases_of, hits_in, hits_by}
-use Rattle.ztarget.specs.Searching.{Found, found, places_from}
+use Rattle.ztarget.specs.Searching.{Found, kept_entry, places_from}
 
 module _ (databases : List Database) where
   -- one hit more
@@ -37,16 +37,16 @@ module _ (databases : List Database) where
   }
 
   module _ (p : Entry → Bool) (n : ℕ) (d : Database) (numbered : slice_get databases n ≡ Some d) where
-    here : (i : ℕ) (e : Entry) → slice_get d.entries i ≡ Some e → entry_at databases (hit n i) ≡ Some (found d.name e)
-    here i e is = ap (λ o. entry_in o i) numbered ∙ ap (option_map (found d.name)) is
+    here : (i : ℕ) (e : Entry) → slice_get d.entries i ≡ Some e → entry_at databases (hit n i) ≡ Some (kept_entry d.name e)
+    here i e is = ap (λ o. entry_in o i) numbered ∙ ap (option_map (kept_entry d.name)) is
 
-    kept_from : (i : ℕ) (es : List Entry) → ((k : ℕ) → slice_get d.entries (i + k) ≡ slice_get es k) → AreAt databases (map (hit n) (places_from p i es)) (map (found d.name) (filter p es))
+    kept_from : (i : ℕ) (es : List Entry) → ((k : ℕ) → slice_get d.entries (i + k) ≡ slice_get es k) → AreAt databases (map (hit n) (places_from p i es)) (map (kept_entry d.name) (filter p es))
     kept_from i [] at = none_at
     kept_from i (e ∷ es) at =
         let first : slice_get d.entries i ≡ Some e = subst (λ m. slice_get d.entries m ≡ Some e) (omega arith) (at 0) in
         let later = kept_from (i + 1) es (λ k. subst (λ m. slice_get d.entries m ≡ slice_get es k) (omega arith) (at (suc k))) in
-        elim (p e) as (λ b. AreAt databases (map (hit n) (if b then i ∷ places_from p (i + 1) es else places_from p (i + 1) es)) (map (found d.name) (cond b (e ∷ filter p es) (filter p es)))) [
-          | true ↦ one_more (hit n i) (found d.name e) _ _ (here i e first) later
+        elim (p e) as (λ b. AreAt databases (map (hit n) (if b then i ∷ places_from p (i + 1) es else places_from p (i + 1) es)) (map (kept_entry d.name) (cond b (e ∷ filter p es) (filter p es)))) [
+          | true ↦ one_more (hit n i) (kept_entry d.name e) _ _ (here i e first) later
           | false ↦ later
         ]
 

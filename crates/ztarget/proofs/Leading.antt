@@ -6,7 +6,7 @@ use Rattle.std.specs.Cmp.Lexicographic.{slice_cmp}
 use Rattle.std.specs.Ordering.{nat_cmp, ordering_then, ordering_reverse, MatchOrdering}
 use Rattle.std.specs.declared.cmp.Ordering.{Ordering}
 use Rattle.std.specs.declared.cmp.Ordering.TheVariants.{Less, Equal, Greater}
-use Rattle.ztarget.specs.Words.{AreOctets, leading}
+use Rattle.ztarget.specs.Words.{AreOctetsByIndex, leading}
 
 -- the least that is spelt behind a number is that with zeros
 at_least : (n a b : ℕ) (us : List ℕ) → a ≤ b → leading a n [] ≤ leading b n us
@@ -15,7 +15,7 @@ at_least (suc n) a b [] le = at_least n (a * 256) (b * 256) [] (omega (arith, le
 at_least (suc n) a b (u ∷ us) le = at_least n (a * 256) (b * 256 + u) us (omega (arith, le))
 
 -- the first octets tell more than those behind
-rises : (n a b : ℕ) (us vs : List ℕ) → AreOctets us → a < b → leading a n us < leading b n vs
+rises : (n a b : ℕ) (us vs : List ℕ) → AreOctetsByIndex us → a < b → leading a n us < leading b n vs
 rises zero a b us vs octets less = less
 rises (suc n) a b [] [] octets less = rises n (a * 256) (b * 256) [] [] octets (omega (arith, less))
 rises (suc n) a b [] (v ∷ vs) octets less = rises n (a * 256) (b * 256 + v) [] vs octets (omega (arith, less))
@@ -26,7 +26,7 @@ rises (suc n) a b (u ∷ us) (v ∷ vs) octets less =
     let small : u < 256 = octets 0 in
     rises n (a * 256 + u) (b * 256 + v) us vs (λ k. octets (suc k)) (omega (arith, less, small))
 
-pub below : (n a : ℕ) (us vs : List ℕ) → AreOctets us → AreOctets vs → leading a n us < leading a n vs → slice_cmp nat_cmp us vs ≡ Less
+pub below : (n a : ℕ) (us vs : List ℕ) → AreOctetsByIndex us → AreOctetsByIndex vs → leading a n us < leading a n vs → slice_cmp nat_cmp us vs ≡ Less
 below zero a us vs first second less = absurd (omega (arith, less))
 below (suc n) a [] [] first second less = absurd (omega (arith, less))
 below (suc n) a [] (v ∷ vs) first second less = refl
@@ -46,5 +46,5 @@ below (suc n) a (u ∷ us) (v ∷ vs) first second less = by (below n (a * 256 +
         let more = rises n (a * 256 + v) (a * 256 + u) vs us (λ k. second (suc k)) (omega (arith, over)) in
         absurd (omega (arith, less, more))
 
-pub above : (n a : ℕ) (us vs : List ℕ) → AreOctets us → AreOctets vs → leading a n vs < leading a n us → slice_cmp nat_cmp us vs ≡ Greater
+pub above : (n a : ℕ) (us vs : List ℕ) → AreOctetsByIndex us → AreOctetsByIndex vs → leading a n vs < leading a n us → slice_cmp nat_cmp us vs ≡ Greater
 above n a us vs first second more = nat_list_cmp_total.antisymm us vs ∙ ap ordering_reverse (below n a vs us second first more)

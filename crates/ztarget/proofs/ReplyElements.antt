@@ -24,7 +24,7 @@ use Rattle.zapdu.specs.declared.productions.record.RecordBody.{RecordBody}
 use Rattle.zapdu.specs.declared.productions.record.RecordBody.TheVariants.{Retrieval, Surrogate}
 use Rattle.zapdu.specs.declared.productions.search_request.SearchRequest.{SearchRequest}
 use Rattle.zapdu.specs.Productions.Closes.{close_table, close_parts}
-use Rattle.zapdu.specs.Productions.Diagnostics.{default_table, default_parts, diag_rec}
+use Rattle.zapdu.specs.Productions.Diagnostics.{default_diag_table, default_parts, diag_rec}
 use Rattle.zapdu.specs.Productions.Externals.{external_table, external_parts}
 use Rattle.zapdu.specs.Productions.Implementations.{implementation, implementation_table, implementation_parts}
 use Rattle.zapdu.specs.Productions.InitResponses.{init_response_table, init_response_parts}
@@ -62,7 +62,7 @@ external_fits f is = of_table 0 external_table (fields external_table (aligned f
 
 default_fits : (r : Bib1Fault) → is_i64 r.condition ≡ true → HaveLevels 0 (default_parts.spelling (diagnostic r) [])
 unfolding default_parts
-default_fits r is = of_table 0 default_table (fields default_table (diagnostic r)) [] (low 0, (of_integer 0 (universal 2) r.condition is, (low 0, tt))) tt
+default_fits r is = of_table 0 default_diag_table (fields default_diag_table (diagnostic r)) [] (low 0, (of_integer 0 (universal 2) r.condition is, (low 0, tt))) tt
 
 record_fits : (name : List ℕ) (b : RecordBody) → HasLevels 2 (body.spelling b) → HaveLevels 3 (record_parts.spelling (record { name = Some name; body = b }) [])
 unfolding record_parts

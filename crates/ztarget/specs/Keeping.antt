@@ -9,7 +9,7 @@ use Rattle.ztarget.specs.declared.database.Entry.{Entry}
 use Rattle.ztarget.specs.declared.database.Database.{Database}
 use Rattle.ztarget.specs.declared.found.Hit.{Hit}
 use Rattle.ztarget.specs.declared.searched.Numbered.{Numbered}
-use Rattle.ztarget.specs.Searching.{Found, found, places_from}
+use Rattle.ztarget.specs.Searching.{Found, kept_entry, places_from}
 use Rattle.ztarget.specs.Showing.{shown_record}
 use Rattle.ztarget.specs.Standing.{NamedSet}
 
@@ -20,7 +20,7 @@ hit database entry = record { database = database; entry = entry }
 -- the entry of this number, as a search of the database finds it
 abbrev pub entry_in : Option Database → ℕ → Option Found
 entry_in None i = None
-entry_in (Some d) i = option_map (found d.name) (slice_get d.entries i)
+entry_in (Some d) i = option_map (kept_entry d.name) (slice_get d.entries i)
 
 -- the entry at a hit
 abbrev pub entry_at : List Database → Hit → Option Found

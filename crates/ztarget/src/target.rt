@@ -352,7 +352,7 @@ impl Target {
     #[tactic(auto, using(crate::proofs::Histories::answers_of))]
     pub fn receive(&mut self, apdu: &Apdu) -> Result<(), TargetError>
         ensures receives { TargetReceiveStep self.old apdu.now result self.new }
-        ensures answers { (databases : List Database) (settings : TargetSettings) (received released : List Apdu)
+        ensures replies { (databases : List Database) (settings : TargetSettings) (received released : List Apdu)
             → After databases settings received released self.old
             → AfterReceive databases settings received released apdu.now result self.old self.new }
         ensures elements { All HasElement self.new.pending }

@@ -3,7 +3,7 @@ ghost use Rattle.std.specs.Prelude.{◌≡◌, ◌<◌, nat_eq, refl, slice_inde
 ghost use Rattle.std.specs.Ordering.{nat_cmp};
 ghost use Rattle.std.specs.Cmp.Lexicographic.{pointwise, slice_cmp, nat_list_eq_equiv, nat_list_cmp_total, texts_ties, texts_po};
 ghost use Rattle.std.specs.Cmp.{partial_equiv_from_equiv};
-ghost use Rattle.ztarget.specs.Words.{leading, AreOctets};
+ghost use Rattle.ztarget.specs.Words.{leading, AreOctetsByIndex};
 
 use bytes::Bytes;
 use std::alloc::AllocError;
@@ -41,7 +41,7 @@ fn octet_at(octets: &[u8], at: usize) -> u8
 /// Returns the number that the first eight octets spell, most significant first. Zeros follow a shorter word.
 fn leading(octets: &[u8]) -> u64
     ensures leading { result ≡ leading 0 8 octets.now }
-    ensures octets { AreOctets octets.now }
+    ensures octets { AreOctetsByIndex octets.now }
 {
     u64::from_be_bytes([
         octet_at(octets, 0),

@@ -1,6 +1,6 @@
 // Questions to hosts in memory, in order and at once: hosts that refuse, hang, trickle and cut.
-ghost use Rattle.std.specs.Prelude.{IfOk};
-ghost use Rattle.zoom.specs.Askable.{IsAskable};
+ghost use Rattle.std.specs.Prelude.{◌≡◌, ◌+◌, [], length, IfOk, OnOk};
+ghost use Rattle.zoom.specs.Askable.{IsAskable, AreAskable};
 
 use crate::peers::{Peer, Peers};
 use bytes::Bytes;
@@ -150,6 +150,49 @@ fn question(alloc: Global, word: &[u8]) -> Result<Question, Unread>
     })
 }
 
+/// Puts a question behind others, if it was made.
+#[tactic(auto, using(crate::proofs::Askables::one_more))]
+pub(crate) fn push_question(
+    questions: &mut Vec<Question>,
+    made: Result<Question, Unread>,
+) -> Result<(), Unread>
+    requires askable { AreAskable questions.old.items }
+    requires made { IfOk made IsAskable }
+    ensures askable { OnOk result (AreAskable questions.new.items) }
+    ensures longer { OnOk result (length questions.new.items ≡ length questions.old.items + 1) }
+{
+    let Ok(question) = made else {
+        return Err(Unread);
+    };
+    match questions.push(question) {
+        Ok(()) => Ok(()),
+        Err(_) => Err(Unread),
+    }
+}
+
+fn push_words(alloc: Global, questions: &mut Vec<Question>) -> Result<(), Unread>
+    requires none { questions.old.items ≡ [] }
+    ensures askable { OnOk result (AreAskable questions.new.items) }
+    ensures four { OnOk result (length questions.new.items ≡ 4) }
+{
+    push_question(questions, question(alloc, b"emma"))?;
+    push_question(questions, question(alloc, b"dune"))?;
+    push_question(questions, question(alloc, b"iliad"))?;
+    push_question(questions, question(alloc, b"nobody"))
+}
+
+// A question for each of three words, and one that nobody is asked.
+fn words_asked(alloc: Global) -> Result<Vec<Question>, Unread>
+    ensures askable { IfOk result (λ questions. AreAskable questions.items) }
+    ensures four { IfOk result (λ questions. length questions.items ≡ 4) }
+{
+    let mut questions = Vec::new(alloc);
+    match push_words(alloc, &mut questions) {
+        Ok(()) => Ok(questions),
+        Err(error) => Err(error),
+    }
+}
+
 // Asks the hosts `a`, `b` and `c` for three words, and nobody for the last one.
 fn ask_three(
     alloc: Global,
@@ -157,12 +200,9 @@ fn ask_three(
     limits: Limits,
     at_once: bool,
 ) -> Result<Meta, Unread> {
-    let questions = vec![in alloc;
-        question(alloc, b"emma")?,
-        question(alloc, b"dune")?,
-        question(alloc, b"iliad")?,
-        question(alloc, b"nobody")?,
-    ]?;
+    let Ok(questions) = words_asked(alloc) else {
+        return Err(Unread);
+    };
     let settings = MetaSettings {
         name: Bytes::from_static(b"zmeta"),
         step: 3,

@@ -1,7 +1,7 @@
 -- The query within an element that holds one element.
 use Rattle.std.proofs.Common.{◌≡◌, List, [], ◌∷◌, Some, Result}
 use Rattle.zber.specs.Elements.{Element, Primitive, Constructed, elements}
-use Rattle.zasn.specs.Within.{found, sequence_of, any_at}
+use Rattle.zasn.specs.Within.{value_read, sequence_of, any_at}
 use Rattle.zasn.specs.Reading.{option_map}
 use Rattle.zasn.specs.declared.error.PartError.{PartError}
 use Rattle.zasn.specs.Answers.{MeaningResult}
@@ -10,7 +10,7 @@ use Rattle.zquery_rpn.proofs.ElementTheory.AnyQueryPlaces.{alone_says}
 use Rattle.zapdu.specs.declared.productions.search_query.SearchQuery.{SearchQuery}
 use Rattle.zapdu.specs.Productions.SearchQueries.{of_sum}
 
-one_of : (ns : List Element) (m : Element) → found (any_at ns) ≡ Some m → found (any_query_at ns) ≡ any_query m
+one_of : (ns : List Element) (m : Element) → value_read (any_at ns) ≡ Some m → value_read (any_query_at ns) ≡ any_query m
 one_of [] m e = absurd cc
 one_of (n ∷ []) m e = let is : n ≡ m = cc in rw is (alone_says m)
 one_of (n ∷ k ∷ ns) m e = absurd cc

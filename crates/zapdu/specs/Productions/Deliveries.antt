@@ -28,5 +28,6 @@ delivery syntax segments record_size segment_size other =
       other_info = other;
     }
 
+-- the elements of `Delivery`, by the table
 unfoldable pub delivery_parts : Elements Delivery
 delivery_parts = of_table delivery_table delivery (λ v. refl) (λ x. refl) refl

@@ -38,16 +38,17 @@ abbrev pub info : Place Info
 info = of_choice infos info_pick info-same info-back refl
 
 -- DefaultDiagFormat: diagnosticSetId OBJECT IDENTIFIER, condition INTEGER, addinfo
-abbrev pub default_table : ComponentTable DefaultDiag
-default_table =
+abbrev pub default_diag_table : ComponentTable DefaultDiag
+default_diag_table =
     required (oid (universal 6)) (λ v. v.diag_set)
     ⨾ required (integer (universal 2)) (λ v. v.condition)
     ⨾ required info (λ v. v.info)
     ⨾ ended
 
+-- the elements of `DefaultDiag`, by the table
 unfoldable pub default_parts : Elements DefaultDiag
 default_parts =
-    of_table default_table (λ a b c. record { diag_set = a; condition = b; info = c }) (λ v. refl) (λ x. refl) refl
+    of_table default_diag_table (λ a b c. record { diag_set = a; condition = b; info = c }) (λ v. refl) (λ x. refl) refl
 
 -- defaultFormat SEQUENCE, externallyDefined EXTERNAL
 abbrev pub diag_recs : Choice DiagRec

@@ -17,6 +17,7 @@ database_element_set_table =
     ⨾ required (octets (context 103)) (λ v. v.element_set_name)
     ⨾ ended
 
+-- the elements of `DatabaseElementSet`, by the table
 unfoldable pub database_element_set_parts : Elements DatabaseElementSet
 database_element_set_parts =
     of_table database_element_set_table (λ a b. record { database_name = a; element_set_name = b }) (λ v. refl)
@@ -46,6 +47,7 @@ pub element_set_names-back : (x : Pick kinds_of_element_set_names)
 element_set_names-back (inl xs) = refl
 element_set_names-back (inr vs) = refl
 
+-- the place of an ElementSetNames, a choice
 unfoldable pub element_set_names : Place ElementSetNames
 element_set_names =
     of_choice kinds_of_element_set_names element_set_names_pick element_set_names-same element_set_names-back refl

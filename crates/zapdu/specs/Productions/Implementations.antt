@@ -31,5 +31,6 @@ implementation id name version information other =
       other_info = other;
     }
 
+-- the elements of `Implementation`, by the table
 unfoldable pub implementation_parts : Elements Implementation
 implementation_parts = of_table implementation_table implementation (λ v. refl) (λ x. refl) refl

@@ -25,6 +25,7 @@ pub init_request_clear : clear init_request_table ≡ true
 unfolding implementation_parts
 init_request_clear = refl
 
+-- the elements of `InitRequest`, by the table
 unfoldable pub init_request_parts : Elements InitRequest
 init_request_parts =
     of_table init_request_table

@@ -26,6 +26,7 @@ pub present_request_clear : clear present_request_table ≡ true
 unfolding delivery_parts
 present_request_clear = refl
 
+-- the elements of `PresentRequest`, by the table
 unfoldable pub present_request_parts : Elements PresentRequest
 present_request_parts =
     of_table present_request_table

@@ -18,6 +18,7 @@ present_response_table =
     ⨾ optional (opaque (context 201)) (λ v. v.other_info)
     ⨾ ended
 
+-- the elements of `PresentResponse`, by the table
 unfoldable pub present_response_parts : Elements PresentResponse
 present_response_parts =
     of_table present_response_table

@@ -40,5 +40,6 @@ pub query-back : (x : Pick queries) → query_pick (picked queries x) ≡ x
 query-back (inl q) = refl
 query-back (inr m) = refl
 
+-- the place of a Query, a choice
 unfoldable pub search_query : Place SearchQuery
 search_query = of_choice queries query_pick query-same query-back refl

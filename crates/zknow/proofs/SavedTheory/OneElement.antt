@@ -7,7 +7,7 @@ use Rattle.zasn.specs.Place.{Place}
 use Rattle.zber.proofs.CanonicalLemmas.{canonical_is_spelling}
 use Rattle.zber.proofs.OneSpelling.{one_spelling}
 use Rattle.zber.proofs.ScanSteps.{spells_some}
-use Rattle.zknow.specs.Encodings.{encoding, encoded_octets}
+use Rattle.zknow.specs.Encodings.{encoding, canonical_or_empty}
 use Rattle.zknow.specs.Saved.Saved.{IsElement, IsWithinLimits}
 use Rattle.zknow.specs.Saved.Loaded.{HasFrontValue}
 
@@ -38,7 +38,7 @@ module _ {A : Type 0} (p : Place A) where
     canonical_spelling None is after front = absurd (p.none x is begins.element.node begins.element.says)
     canonical_spelling (Some n) is after front =
         let spelled = canonical_is_spelling (height n) n (lawful n is) (omega arith) in
-        let written : encoding p x ≡ canonical n = ap encoded_octets is in
+        let written : encoding p x ≡ canonical n = ap canonical_or_empty is in
         let lined : spelling ++ rest ≡ canonical n ++ after = sym begins.cut ∙ front ∙ ap (λ l. l ++ after) written in
         (one_spelling rest after begins.element.message.spelled spelled lined).1 ∙ sym written
 

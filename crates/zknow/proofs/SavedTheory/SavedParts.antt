@@ -9,7 +9,7 @@ use Rattle.zber.specs.Spelling.{HasFirstMessage, IsMessage}
 use Rattle.zasn.specs.Place.{Place}
 use Rattle.zknow.specs.declared.fact.Fact.{Fact}
 use Rattle.zknow.specs.declared.saved.saving.Saving.{Saving}
-use Rattle.zknow.specs.Encodings.{encoding, encoded_octets}
+use Rattle.zknow.specs.Encodings.{encoding, canonical_or_empty}
 use Rattle.zknow.specs.Tables.DistinctLaws.{none_in_nil, in_cons, in_head, in_tail}
 use Rattle.zknow.specs.Saved.SavedFacts.{saved_names, saved_fact}
 use Rattle.zknow.specs.Saved.Saved.{saved, longest, IsWithinLimits, IsTooDeepElement, IsTooLongElement, HasTooDeep, HasTooLong}
@@ -19,7 +19,7 @@ use Rattle.std.specs.Prelude.{Result, Ok, Err, OnOk}
 
 module _ {A : Type 0} (p : Place A) (x : A) (n : Element) (is : p.spelling x ≡ Some n) where
   pub encoding_is : encoding p x ≡ canonical n
-  encoding_is = ap encoded_octets is
+  encoding_is = ap canonical_or_empty is
 
   -- an element that a framer takes is one within the limits
   pub framed_fits : HasFirstMessage longest (canonical n ++ []) n [] → IsWithinLimits p x

@@ -16,7 +16,7 @@ use Rattle.zorigin.specs.Fitting.{records_in, is_fragment, IsFitSearchReply, IsF
 use Rattle.ztarget.specs.Faults.{Bib1Fault, fault, first_of_faults}
 use Rattle.zplan.specs.Ranges.{natural, positions_of, positions}
 use Rattle.ztarget.specs.Searching.{Found}
-use Rattle.ztarget.specs.Showing.{retrieval, surrogate, in_syntax, size_of, record_within_size, shown_record, held}
+use Rattle.ztarget.specs.Showing.{retrieval, surrogate, in_syntax, size_of, record_within_size, shown_record, records_held}
 use Rattle.ztarget.specs.Standing.{Terms}
 use Rattle.ztarget.specs.Positions.{received_additional, ranges_of, is_in_set, are_in_set, at_positions}
 use Rattle.ztarget.specs.Responding.{response_records, due_count, search_records, search_found, search_failed, ranges_fault, composition_fault, present_fault, asked_positions, present_records, present_response, present_failed, present_unless, presented}
@@ -52,16 +52,16 @@ all_entire : (size : ℕ) (asked : Option (List ℕ)) (fs : List Found)
 all_entire size asked [] = refl
 all_entire size asked (f ∷ fs) = λ i. shown_entire size asked f i || all_entire size asked fs i
 
-held_entire : (size : ℕ) (due : List Record) → list_any is_part due ≡ false → list_any is_part (held size due) ≡ false
+held_entire : (size : ℕ) (due : List Record) → list_any is_part due ≡ false → list_any is_part (records_held size due) ≡ false
 held_entire size due h =
     let k = what_fits size due in
-    neither (list_any is_part (held size due)) (list_any is_part k.left)
-    (sym (list_any-append is_part (held size due) k.left) ∙ ap (list_any is_part) (sym k.whole) ∙ h)
+    neither (list_any is_part (records_held size due)) (list_any is_part k.left)
+    (sym (list_any-append is_part (records_held size due) k.left) ∙ ap (list_any is_part) (sym k.whole) ∙ h)
 
-held_few : (size : ℕ) (due : List Record) → length (held size due) ≤ length due
+held_few : (size : ℕ) (due : List Record) → length (records_held size due) ≤ length due
 held_few size due =
     let k = what_fits size due in
-    omega (arith, ap length k.whole, length-append (held size due) k.left)
+    omega (arith, ap length k.whole, length-append (records_held size due) k.left)
 
 records_back : (rs : List Record) → records_in (response_records rs) ≡ rs
 records_back [] = refl

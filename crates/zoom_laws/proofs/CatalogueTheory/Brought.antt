@@ -36,7 +36,7 @@ use Rattle.ztarget.specs.declared.settings.TargetSettings.{TargetSettings}
 use Rattle.ztarget.specs.Faults.{Bib1Fault}
 use Rattle.ztarget.specs.Searching.{Found}
 use Rattle.ztarget.specs.Positions.{at_positions}
-use Rattle.ztarget.specs.Showing.{shown_record, held, in_syntax, size_of, surrogate}
+use Rattle.ztarget.specs.Showing.{shown_record, records_held, in_syntax, size_of, surrogate}
 use Rattle.ztarget.specs.Faults as faults
 use Rattle.ztarget.specs.Responding.{due_count, response_records}
 use Rattle.ztarget.specs.Replies.{replies}
@@ -101,10 +101,10 @@ search_reply_facts : (c : ℕ) (offers : TargetSettings) (q : Question) (found :
 search_reply_facts c offers q found None =
     ap (λ n. (Count c 1 (pos (length found)) ∷ [])
     ++ seen_from c 1 (pos 1)
-    (records_in (response_records (held (given offers).size (map (shown_record (given offers).size q.syntax) (take n found)))))
+    (records_in (response_records (records_held (given offers).size (map (shown_record (given offers).size q.syntax) (take n found)))))
     ++ diagnostic_facts c 1 (pos 0)
     (diagnostics_in (response_records
-    (held (given offers).size (map (shown_record (given offers).size q.syntax) (take n found))))))
+    (records_held (given offers).size (map (shown_record (given offers).size q.syntax) (take n found))))))
     (none_due offers.named q (length found))
 search_reply_facts c offers q found (Some reason) = refl
 
@@ -413,7 +413,7 @@ module _ (orderly : (s : Settings) (l : Log) → IsOrderly (past s l))
         } in
         let within = shows_laws.only wanted s.step answers_in k.steps seen.0 shows in
         let due : IsIn seen.0 (positions_due q entries) =
-        subst (λ o. IsIn seen.0 (up_to (plan.found o) wanted)) (count_is none) within in
+        subst (λ o. IsIn seen.0 (up_to (plan.count_of_reply o) wanted)) (count_is none) within in
         let as_it_is = shown_so (given offers).size q.syntax seen.1 (small e none seen.0 seen.1 due seen.3) in
         inr (flat_in (shown_at c q entries) (positions_due q entries) seen.0 f due
         (subst (λ z. IsIn z (shown_at c q entries seen.0)) (sym (seen.4 ∙ ap (Seen c 1 (pos seen.0)) as_it_is))

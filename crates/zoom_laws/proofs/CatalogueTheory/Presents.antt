@@ -19,7 +19,7 @@ use Rattle.ztarget.specs.Faults.{Bib1Fault, first_of_faults}
 use Rattle.ztarget.specs.Faults as faults
 use Rattle.ztarget.specs.Searching.{Found}
 use Rattle.ztarget.specs.Positions.{ranges_of, are_in_set, is_in_set, at_positions}
-use Rattle.ztarget.specs.Showing.{shown_record, held}
+use Rattle.ztarget.specs.Showing.{shown_record, records_held}
 use Rattle.ztarget.specs.Responding.{presented, present_unless, present_response, present_fault, composition_fault, range_fault, ranges_fault, response_records}
 use Rattle.zoom_laws.proofs.AccordTheory.Calls.{sent_received}
 use Rattle.zoom_laws.proofs.CatalogueTheory.Members.{AreWithin}
@@ -75,7 +75,7 @@ all_in_set n last (r ∷ rs) f h =
 
 -- the records that a response holds
 abbrev pub kept_of : TargetSettings → Option (List ℕ) → List Found → List ℕ → List Record
-kept_of offers syntax found l = held (given offers).size (map (shown_record (given offers).size syntax) (at_positions found l))
+kept_of offers syntax found l = records_held (given offers).size (map (shown_record (given offers).size syntax) (at_positions found l))
 
 module _ (offers : TargetSettings) (named : Bool) (op : ℕ) (r : Range) (rs : List Range) (s : Searched) where
   ranges_free : (o : List Range) → ranges_fault true (additional o) ≡ None

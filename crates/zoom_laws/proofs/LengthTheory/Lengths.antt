@@ -35,7 +35,7 @@ use Rattle.ztarget.specs.Positions.{ranges_of, are_in_set, at_positions}
 use Rattle.ztarget.specs.Replies.{OwedReply, owed, replies, association_after, owed_to_search_unless}
 use Rattle.ztarget.specs.Responding.{due_count, search_records, search_fault, name_fault, kept_fault, ranges_fault, composition_fault, range_fault, present_fault, present_records, present_unless, presented}
 use Rattle.ztarget.specs.Searching.{Found}
-use Rattle.ztarget.specs.Showing.{size_of, shown_record, held}
+use Rattle.ztarget.specs.Showing.{size_of, shown_record, records_held}
 use Rattle.ztarget.specs.Standing.{Terms, Open, NamedSet, Association, set_named}
 use Rattle.zoom_questions.specs.declared.question.Question.{Question}
 use Rattle.zoom_questions.specs.declared.question.MetaSettings.{MetaSettings}
@@ -147,7 +147,7 @@ module _ (databases : List Database) (offers : TargetSettings) (q : Question)
       let r = search_value named op set (ask_of q) in
       let none = none_due named op set q (length found) in
       let nothing : size_of_all (search_records terms.size r found) ≡ 0 =
-      ap (λ n. size_of_all (held terms.size (map (shown_record terms.size q.syntax) (take n found)))) none in
+      ap (λ n. size_of_all (records_held terms.size (map (shown_record terms.size q.syntax) (take n found)))) none in
       found_short r (omega arith) (length found) (due_count r (length found)) (search_records terms.size r found)
       (omega (arith, nothing))
   search_short named op set terms sets found (Some reason) h =
@@ -181,8 +181,8 @@ module _ (databases : List Database) (offers : TargetSettings) (q : Question)
     records_within terms on none =
         let l = map (shown_record (size_given offers) q.syntax) (at_positions entries (positions (first ∷ others))) in
         let few = held_short offers l (asked_short on.0 none) in
-        let same : present_records terms.size request entries ≡ held (size_given offers) l =
-        (λ i. held (on.1 i) (map (shown_record (on.1 i) (syntax i))
+        let same : present_records terms.size request entries ≡ records_held (size_given offers) l =
+        (λ i. records_held (on.1 i) (map (shown_record (on.1 i) (syntax i))
         (at_positions entries (positions (same_ranges named op first others s i))))) in
         let equal = ap size_of_all same in
         omega (arith, few, equal)

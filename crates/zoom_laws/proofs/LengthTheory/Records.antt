@@ -14,8 +14,8 @@ use Rattle.ztarget.specs.Faults as faults
 use Rattle.ztarget.specs.Faults.{is_called}
 use Rattle.ztarget.specs.Laws.{size_of_all}
 use Rattle.ztarget.specs.Matching.{is_matching_entry}
-use Rattle.ztarget.specs.Searching.{Found, found, found_in, searched, called, each_once, result_set}
-use Rattle.ztarget.specs.Showing.{size_of, in_syntax, shown_record, surrogate, fitting, held}
+use Rattle.ztarget.specs.Searching.{Found, kept_entry, found_in, searched, called, each_once, result_set}
+use Rattle.ztarget.specs.Showing.{size_of, in_syntax, shown_record, surrogate, fitting, records_held}
 use Rattle.zquery_rpn.specs.Trees.{Tree}
 use Rattle.zoom_laws.specs.Catalogue.{size_given}
 use Rattle.zoom_laws.specs.Lengths.{FittingRecordsLaw, ShortNamesLaw}
@@ -42,7 +42,7 @@ fitting_within size used m (r ∷ rs) l h =
 
 -- if no record is longer than this, and the size is not, those that a response holds are not together
 held_within : (size m : ℕ) (rs : List Record) → size ≤ m → ((r : Record) → IsIn r rs → size_of r ≤ m)
-    → size_of_all (held size rs) ≤ m
+    → size_of_all (records_held size rs) ≤ m
 held_within size m [] l h = omega arith
 held_within size m (r ∷ rs) l h = fitting_within size (size_of r) m rs (h r (inl refl)) l
 
@@ -55,7 +55,7 @@ size_few : (offers : TargetSettings) → size_given offers ≤ 1048576
 size_few offers = natural_less offers.size 1048576
 
 pub held_short : (offers : TargetSettings) (rs : List Record) → ((r : Record) → IsIn r rs → size_of r ≤ 2000158)
-    → size_of_all (held (size_given offers) rs) ≤ 2000158
+    → size_of_all (records_held (size_given offers) rs) ≤ 2000158
 held_short offers rs h = held_within (size_given offers) 2000158 rs (omega (arith, size_few offers)) h
 
 -- ---- one of them
@@ -99,7 +99,7 @@ in_database : (databases : List Database) (names : List (List ℕ)) (tree : Tree
 in_database databases names tree f i =
     let d = in_flat (found_in tree) (searched databases names) f i in
     let n = in_flat (called databases) (each_once [] names) d.0 d.1 in
-    let e = of_map (found d.0.name) (filter (is_matching_entry tree) d.0.entries) f d.2 in
+    let e = of_map (kept_entry d.0.name) (filter (is_matching_entry tree) d.0.entries) f d.2 in
     (d.0, of_filter (is_called n.0) databases d.0 n.2, ap (λ (z : Found). z.database) e.2)
 
 pub of_take : {X : Type 0} (n : ℕ) (xs : List X) (x : X) → IsIn x (take n xs) → IsIn x xs

@@ -17,7 +17,7 @@ use Rattle.zapdu.specs.declared.productions.record.Record.{Record}
 use Rattle.zapdu.specs.declared.productions.record.RecordBody.TheVariants.{Surrogate}
 use Rattle.zapdu.specs.declared.productions.search_request.SearchRequest.{SearchRequest}
 use Rattle.zapdu.specs.Productions.Closes.{close_table, close_parts}
-use Rattle.zapdu.specs.Productions.Diagnostics.{default_table, default_parts, diag_rec}
+use Rattle.zapdu.specs.Productions.Diagnostics.{default_diag_table, default_parts, diag_rec}
 use Rattle.zapdu.specs.Productions.Implementations.{implementation, implementation_table, implementation_parts}
 use Rattle.zapdu.specs.Productions.InitResponses.{init_response_table, init_response_parts}
 use Rattle.zapdu.specs.Productions.PresentResponses.{present_response_table, present_response_parts}
@@ -74,7 +74,7 @@ id_size tag (Some id) h = of_text tag id 19 (omega (arith, h))
 default_size : (r : Bib1Fault) → run_size (default_parts.spelling (diagnostic r) []) ≤ length r.info + 83
 unfolding default_parts
 default_size r =
-    of_places default_table (fields default_table (diagnostic r)) (45 ∷ 23 ∷ (length r.info + 15) ∷ [])
+    of_places default_diag_table (fields default_diag_table (diagnostic r)) (45 ∷ 23 ∷ (length r.info + 15) ∷ [])
     (length r.info + 83) (omega arith) (
       of_oid (universal 6) bib1_diagnostics 45 (omega arith),
       (of_integer (universal 2) r.condition, (of_text (universal 26) r.info (length r.info + 15) (omega arith), tt)),

@@ -11,7 +11,7 @@ use Rattle.std.proofs.lemmas.Bool.{and_parts, and_from, cond-false, true≢false
 use Rattle.std.proofs.lemmas.Int.{ints}
 use Rattle.std.proofs.Math.Seq.{take-append_seam, drop-append-add}
 use Rattle.std.proofs.lemmas.Fmt.{decimal_is_IsNumeral}
-use Rattle.zquery.specs.Notation.Numbers.{is_numeral, number_of_text, integer_of, has_minus, positive, negative}
+use Rattle.zquery.specs.Notation.Numbers.{is_numeral, number_of_text, integer_of, has_minus, plus, minus}
 use Rattle.zquery.specs.Notation.Values.{is_equals, most, pair_of, numbers_of}
 use Rattle.zquery.proofs.NotationTheory.NumberLemmas.{own, some-number}
 
@@ -39,10 +39,10 @@ unfolding integer_of
 integer-decimal (pos n) h =
     let small : n < 2 ^ 63 = omega (arith, ints, h) in
     let d = decimal-digits n (omega arith) in
-    cond-false _ _ _ (digit-no-minus (decimal n) d.0) ∙ ap (option_map positive) (number-decimal (2 ^ 63 - 1) n (omega arith) (omega arith))
+    cond-false _ _ _ (digit-no-minus (decimal n) d.0) ∙ ap (option_map plus) (number-decimal (2 ^ 63 - 1) n (omega arith) (omega arith))
 integer-decimal (negsuc n) h =
     let small : n < 2 ^ 63 = omega (arith, ints, h) in
-    ap (option_map negative) (number-decimal (2 ^ 63) (suc n) (omega arith) (omega arith))
+    ap (option_map minus) (number-decimal (2 ^ 63) (suc n) (omega arith) (omega arith))
 
 -- digits have no equals sign
 digit-no-equals : (ds more : List ℕ) → list_all is_ascii_digit ds ≡ true → position_or_len is_equals (ds ++ 61 ∷ more) ≡ length ds

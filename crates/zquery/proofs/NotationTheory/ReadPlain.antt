@@ -14,7 +14,7 @@ use Rattle.zquery_rpn.specs.declared.query.Attr.{Attr}
 use Rattle.zquery_rpn.specs.declared.query.AttrValue.{AttrValue}
 use Rattle.zquery_rpn.specs.declared.query.TermValue.{TermValue}
 use Rattle.zquery_rpn.specs.declared.query.TermValue.TheVariants.{General, Numeric, Text}
-use Rattle.zquery.specs.Notation.Numbers.{is_numeral, number_of_text, positive, negative, has_minus, integer_of}
+use Rattle.zquery.specs.Notation.Numbers.{is_numeral, number_of_text, plus, minus, has_minus, integer_of}
 use Rattle.zquery.specs.Notation.Values.{is_equals, most, pair_of, numbers_of, value_of}
 use Rattle.zquery.specs.Notation.Sets.{bib1, set_of}
 use Rattle.zquery.specs.InForce.{alike, in_force}
@@ -53,19 +53,19 @@ mapped : {A B : Type 0} (f : A → B) (o : Option A) (z : B) → option_map f o 
 mapped f None z e = absurd (Prim.cc e)
 mapped f (Some x) z e = (x, refl, cc)
 
-negative-fits : (n : ℕ) → n ≤ 2 ^ 63 → FitsSigned w64 (negative n)
+negative-fits : (n : ℕ) → n ≤ 2 ^ 63 → FitsSigned w64 (minus n)
 negative-fits zero h = let small : 0 < 2 ^ 63 = omega arith in record { sfits = small }
 negative-fits (suc n) h = let small : n < 2 ^ 63 = omega (arith, h) in record { sfits = small }
 
-by-sign : (text : List ℕ) (b : Bool) (z : ℤ) → (if b then option_map negative (number_of_text (2 ^ 63) (drop 1 text)) else option_map positive (number_of_text (2 ^ 63 - 1) text)) ≡ Some z → FitsSigned w64 z
+by-sign : (text : List ℕ) (b : Bool) (z : ℤ) → (if b then option_map minus (number_of_text (2 ^ 63) (drop 1 text)) else option_map plus (number_of_text (2 ^ 63 - 1) text)) ≡ Some z → FitsSigned w64 z
 by-sign text true z e =
-    let m = mapped negative (number_of_text (2 ^ 63) (drop 1 text)) z e in
+    let m = mapped minus (number_of_text (2 ^ 63) (drop 1 text)) z e in
     subst (λ (x : ℤ). FitsSigned w64 x) m.2 (negative-fits m.0 (number-most (2 ^ 63) (drop 1 text) m.0 m.1))
 by-sign text false z e =
-    let m = mapped positive (number_of_text (2 ^ 63 - 1) text) z e in
+    let m = mapped plus (number_of_text (2 ^ 63 - 1) text) z e in
     let low : m.0 ≤ 2 ^ 63 - 1 = number-most (2 ^ 63 - 1) text m.0 m.1 in
     let small : m.0 < 2 ^ 63 = omega (arith, low) in
-    let fits : FitsSigned w64 (positive m.0) = record { sfits = small } in
+    let fits : FitsSigned w64 (plus m.0) = record { sfits = small } in
     subst (λ (x : ℤ). FitsSigned w64 x) m.2 fits
 
 integer-fits : (text : List ℕ) (z : ℤ) → integer_of text ≡ Some z → FitsSigned w64 z

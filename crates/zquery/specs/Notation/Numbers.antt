@@ -15,12 +15,12 @@ number_of_text most text =
     if is_numeral text && nat_le (digits_value 10 text) most then Some (digits_value 10 text) else None
 
 -- the integer that digits with no minus before them write
-abbrev pub positive : ℕ → ℤ
-positive n = pos n
+abbrev pub plus : ℕ → ℤ
+plus n = pos n
 
 -- the integer that digits with a minus before them write; with a minus, 0 is 0 also
-abbrev pub negative : ℕ → ℤ
-negative n = neg_ℤ (pos n)
+abbrev pub minus : ℕ → ℤ
+minus n = neg_ℤ (pos n)
 
 -- the text begins with a minus
 abbrev pub has_minus : List ℕ → Bool
@@ -30,5 +30,5 @@ has_minus (b ∷ bs) = b == 45
 -- the number that digits write, with or without a minus before them, if it is of 64 bits
 unfoldable pub integer_of : List ℕ → Option ℤ
 integer_of text =
-    if has_minus text then option_map negative (number_of_text (2 ^ 63) (drop 1 text))
-    else option_map positive (number_of_text (2 ^ 63 - 1) text)
+    if has_minus text then option_map minus (number_of_text (2 ^ 63) (drop 1 text))
+    else option_map plus (number_of_text (2 ^ 63 - 1) text)

@@ -2,7 +2,7 @@
 ghost use Rattle.std.specs.Prelude.{◌≡◌, ◌≤◌, ◌^◌, drop, true, false, IfSome, IfNone};
 ghost use Rattle.std.specs.Char.{is_ascii_digit};
 ghost use Rattle.std.specs.List.{list_all};
-ghost use Rattle.zquery.specs.Notation.Numbers.{is_numeral, has_minus, number_of_text, integer_of, negative};
+ghost use Rattle.zquery.specs.Notation.Numbers.{is_numeral, has_minus, number_of_text, integer_of, minus};
 
 fn are_digits(text: &[u8]) -> bool
     ensures { result ≡ list_all is_ascii_digit text.now }
@@ -38,7 +38,7 @@ pub fn number(text: &[u8], most: u64) -> Option<u64>
 /// Returns the number below 0 of this size, which is at most 2^63.
 fn negate(number: u64) -> i64
     requires { number ≤ 2 ^ 63 }
-    ensures { result ≡ negative number }
+    ensures { result ≡ minus number }
 {
     if number == 0 {
         0

@@ -6,12 +6,12 @@ use Rattle.zber.specs.Elements.{Element, Constructed, end, tag_of}
 use Rattle.zber.specs.Tags.{same_tag, among}
 use Rattle.zasn.specs.Standing.{required, ended}
 use Rattle.zasn.specs.Reading.{option_map}
-use Rattle.zasn.specs.Within.{found}
+use Rattle.zasn.specs.Within.{value_read}
 use Rattle.zasn.specs.Laws.{IsLawfulPlace, IsSpelled}
 use Rattle.zasn_tables.proofs.Readings.{either, or_left}
 use Rattle.zasn_tables.proofs.Withins.{nested_place, nested_spelled}
 use Rattle.zquery_rpn.specs.Trees.{RpnQuery}
-use Rattle.zquery_rpn.specs.Element.Type1Reading.{query_of}
+use Rattle.zquery_rpn.specs.Element.Type1Reading.{element_query}
 use Rattle.zquery_rpn.specs.Element.AnyQueries.{WritesAny, WritesWithin, any_query, the_one, any_query_at, query_within, any_query_spelling, within_spelling}
 use Rattle.zquery_rpn.proofs.ElementTheory.Type1Finding.{some_is, finds_query, reads_query, begins_query}
 use Rattle.zquery_rpn.proofs.ElementTheory.Type1Making.{makes_query, query_none}
@@ -27,12 +27,12 @@ any_finds (inl q) n h = rw (named n (begins_query q n h), finds_query q n h) ref
 any_finds (inr m) n h = rw (h.1, h.0) refl
 
 any_reads : (v : RpnQuery ⊎ Element) (n : Element) → any_query n ≡ Some v → WritesAny v n
-any_reads v n e = by_tag (same_tag (tag_of n) (context 1)) (query_of n) refl refl e
+any_reads v n e = by_tag (same_tag (tag_of n) (context 1)) (element_query n) refl refl e
   where
-    by_tag : (b : Bool) (o : Option RpnQuery) → same_tag (tag_of n) (context 1) ≡ b → query_of n ≡ o → cond b (option_map inl o) (Some (inr n)) ≡ Some v → WritesAny v n
-    by_tag true None is found e = absurd cc
-    by_tag true (Some q) is found e = subst (λ (w : RpnQuery ⊎ Element). WritesAny w n) (some_is (inl q) v (Some (inl q)) refl e) (reads_query q n (or_left (same_tag (tag_of n) (context 1)) false is) found)
-    by_tag false o is found e = subst (λ (w : RpnQuery ⊎ Element). WritesAny w n) (some_is (inr n) v (Some (inr n)) refl e) (refl, is)
+    by_tag : (b : Bool) (o : Option RpnQuery) → same_tag (tag_of n) (context 1) ≡ b → element_query n ≡ o → cond b (option_map inl o) (Some (inr n)) ≡ Some v → WritesAny v n
+    by_tag true None is read e = absurd cc
+    by_tag true (Some q) is read e = subst (λ (w : RpnQuery ⊎ Element). WritesAny w n) (some_is (inl q) v (Some (inl q)) refl e) (reads_query q n (or_left (same_tag (tag_of n) (context 1)) false is) read)
+    by_tag false o is read e = subst (λ (w : RpnQuery ⊎ Element). WritesAny w n) (some_is (inr n) v (Some (inr n)) refl e) (refl, is)
 
 any_makes : (v : RpnQuery ⊎ Element) (n : Element) → any_query_spelling v ≡ Some n → WritesAny v n
 any_makes (inl q) n e = makes_query q n e
@@ -88,11 +88,11 @@ alone_none : (v : RpnQuery ⊎ Element) → made v ≡ None → (ns : List Eleme
 alone_none v e ns h = one_none v (any_query_spelling v) refl e ns h
 
 -- one element alone has the query of this element
-found_one : (n : Element) (o : Option (RpnQuery ⊎ Element)) → found (the_one o n) ≡ o
+found_one : (n : Element) (o : Option (RpnQuery ⊎ Element)) → value_read (the_one o n) ≡ o
 found_one n (Some v) = refl
 found_one n None = refl
 
-pub alone_says : (n : Element) → found (any_query_at (n ∷ [])) ≡ any_query n
+pub alone_says : (n : Element) → value_read (any_query_at (n ∷ [])) ≡ any_query n
 alone_says n = found_one n (any_query n)
 
 -- ---- the place

@@ -10,7 +10,7 @@ use Rattle.zasn.specs.declared.error.PartError.{PartError}
 use Rattle.zquery_rpn.specs.declared.query.Rpn.{Rpn}
 use Rattle.zquery_rpn.specs.Trees.{RpnQuery}
 use Rattle.zquery_rpn.specs.Element.Type1.{WritesQuery, IsQueryOfElement}
-use Rattle.zquery_rpn.specs.Element.Type1Reading.{joined_tree_of, tree_of, tree_and_element, query_of, query_at, IsTreeResult}
+use Rattle.zquery_rpn.specs.Element.Type1Reading.{joined_tree_of, tree_of, tree_and_element, element_query, query_at, IsTreeResult}
 use Rattle.zquery_rpn.proofs.ElementTheory.Type1Finding.{trees-elements, finds_query, reads_query, begins_query}
 use Rattle.zquery_rpn.proofs.ElementTheory.Type1Making.{one_query}
 
@@ -28,10 +28,10 @@ not_there true e f = absurd cc
 not_there false e f = absurd cc
 
 query_at_is : (n : Element) → IsQueryOfElement n (query_at n)
-query_at_is n = by_tag (same_tag (tag_of n) (context 1)) (query_of n) refl refl
+query_at_is n = by_tag (same_tag (tag_of n) (context 1)) (element_query n) refl refl
   where
-    by_tag : (b : Bool) (o : Option RpnQuery) → same_tag (tag_of n) (context 1) ≡ b → query_of n ≡ o → IsQueryOfElement n (cond b o None)
-    by_tag true None is found = λ q h. let f : query_of n ≡ Some q = finds_query q n h in absurd cc
+    by_tag : (b : Bool) (o : Option RpnQuery) → same_tag (tag_of n) (context 1) ≡ b → element_query n ≡ o → IsQueryOfElement n (cond b o None)
+    by_tag true None is found = λ q h. let f : element_query n ≡ Some q = finds_query q n h in absurd cc
     by_tag true (Some q) is found = reads_query q n (or_left (same_tag (tag_of n) (context 1)) false is) found
     by_tag false o is found = λ q h. not_there (same_tag (tag_of n) (context 1)) is (begins_query q n h)
 

@@ -14,15 +14,15 @@ use Rattle.zquery_rpn.specs.Element.Operands.{Operand, AttrTerm, ResultSet, Resu
 use Rattle.zquery_rpn.specs.declared.element.operator.Joint.TheVariants.{Logical, ProxOperator}
 use Rattle.zquery_rpn.specs.declared.element.operator.Joint.{Joint}
 use Rattle.zquery_rpn.specs.Element.Operators.{operator}
-use Rattle.zquery_rpn.specs.Element.Type1.{first, op, WritesTree, WritesQuery}
-use Rattle.zquery_rpn.specs.Element.Type1Reading.{of_operand, of_joint, joined_tree, joined_tree_of, tree_in, trees, tree_of, tree_and_element, query_from, query_in, query_of}
+use Rattle.zquery_rpn.specs.Element.Type1.{first_and_rest, op, WritesTree, WritesQuery}
+use Rattle.zquery_rpn.specs.Element.Type1Reading.{of_operand, of_joint, joined_tree, joined_tree_of, tree_in, trees, tree_of, tree_and_element, query_from, query_in, element_query}
 
 pub some_is : {A : Type 0} (x y : A) (o : Option A) → o ≡ Some x → o ≡ Some y → x ≡ y
 some_is x y o e f = let g : Some x ≡ Some y = sym e ∙ f in cc
 
 -- two structures and an operator
 abbrev pub AreJoinedParts : Tree → Tree → Joint → List Element → Type 0
-AreJoinedParts a b o ns = first (WritesTree a) (first (WritesTree b) (required operator.writes o ended)) ns
+AreJoinedParts a b o ns = first_and_rest (WritesTree a) (first_and_rest (WritesTree b) (required operator.writes o ended)) ns
 
 -- ---- an element with a place's tags, read whole
 
@@ -144,7 +144,7 @@ finds_parts q (n ∷ []) h = absurd h.1
 finds_parts q (n ∷ m ∷ []) h = rw (whole_finds (oid (universal 6)) q.attr_set n h.0, finds_tree q.root m h.1.0) refl
 finds_parts q (n ∷ m ∷ k ∷ ns) h = absurd h.1.1
 
-pub finds_query : (q : RpnQuery) (n : Element) → WritesQuery q n → query_of n ≡ Some q
+pub finds_query : (q : RpnQuery) (n : Element) → WritesQuery q n → element_query n ≡ Some q
 finds_query q (Primitive t bs) h = absurd h
 finds_query q (Constructed t f) h = finds_parts q (elements f) h.1
 
@@ -161,7 +161,7 @@ reads_parts q (n ∷ []) e = absurd cc
 reads_parts q (n ∷ m ∷ []) e = reads_two q n m (whole_of (oid (universal 6)) n) (tree_of m) refl refl e
 reads_parts q (n ∷ m ∷ k ∷ ns) e = absurd cc
 
-pub reads_query : (q : RpnQuery) (n : Element) → among (tag_of n) (context 1 ∷ []) ≡ true → query_of n ≡ Some q → WritesQuery q n
+pub reads_query : (q : RpnQuery) (n : Element) → among (tag_of n) (context 1 ∷ []) ≡ true → element_query n ≡ Some q → WritesQuery q n
 reads_query q (Primitive t bs) there e = absurd cc
 reads_query q (Constructed t f) there e = (one_tag (context 1) (Constructed t f) there, reads_parts q (elements f) e)
 

@@ -16,7 +16,7 @@ use Rattle.zquery_rpn.specs.declared.element.operator.Joint.TheVariants.{Logical
 use Rattle.zquery_rpn.specs.declared.element.operator.Joint.{Joint}
 use Rattle.zquery_rpn.specs.Element.Operators.{operator}
 use Rattle.zquery_rpn.specs.Element.Type1.{op, WritesTree, WritesQuery}
-use Rattle.zquery_rpn.specs.Element.Type1Reading.{of_operand, two, three, query_of, tree_spelling, query_spelling}
+use Rattle.zquery_rpn.specs.Element.Type1Reading.{of_operand, two, three, element_query, tree_spelling, query_spelling}
 use Rattle.zquery_rpn.proofs.ElementTheory.Type1Finding.{some_is, AreJoinedParts, Parts, writes_operand, finds_query, reads_query, begins_query}
 
 -- the element around elements for which P holds
@@ -94,7 +94,7 @@ some_query =
     (q, Constructed (context 1) (forest ns), (refl, subst (λ (ms : List Element). Parts q ms) (sym (elements-forest ns)) (s.2, (writes_operand r.0 r.1 r.2, tt))))
 
 -- type-1 queries at their place in a production
-pub query_place : IsLawfulPlace WritesQuery (context 1 ∷ []) query_of
+pub query_place : IsLawfulPlace WritesQuery (context 1 ∷ []) element_query
 query_place = record { some = some_query; begins = begins_query; reads = reads_query; finds = finds_query }
 
 pub query_spelled : IsSpelled WritesQuery query_spelling
@@ -103,7 +103,7 @@ query_spelled = record { makes = makes_query; none = query_none }
 -- ---- what callers see
 
 pub one_query : (q r : RpnQuery) (n : Element) → WritesQuery q n → WritesQuery r n → q ≡ r
-one_query q r n h k = some_is q r (query_of n) (finds_query q n h) (finds_query r n k)
+one_query q r n h k = some_is q r (element_query n) (finds_query q n h) (finds_query r n k)
 
 pub query_written : (q : RpnQuery) (r : Result Element BuildError) → BuildResult (query_spelling q) r → WritingResult (WritesQuery q) r
 query_written q (Ok n) h = makes_query q n h

@@ -9,7 +9,7 @@ use Rattle.zasn.specs.Reading.{option_map}
 use Rattle.zasn.specs.Within.{around, sequence_of}
 use Rattle.zquery_rpn.specs.Trees.{RpnQuery}
 use Rattle.zquery_rpn.specs.Element.Type1.{WritesQuery}
-use Rattle.zquery_rpn.specs.Element.Type1Reading.{query_of, query_spelling}
+use Rattle.zquery_rpn.specs.Element.Type1Reading.{element_query, query_spelling}
 
 -- the element stands for a type-1 query, or is another query, which is kept and has any tag but [1]
 abbrev pub WritesAny : RpnQuery ⊎ Element → Element → Type 0
@@ -24,7 +24,7 @@ WritesWithin tag v n = sequence tag (required WritesAny v ended) n
 
 -- the query of an element: of type 1 if its tag is [1], otherwise the element itself
 abbrev pub any_query : Element → Option (RpnQuery ⊎ Element)
-any_query n = if same_tag (tag_of n) (context 1) then option_map inl (query_of n) else Some (inr n)
+any_query n = if same_tag (tag_of n) (context 1) then option_map inl (element_query n) else Some (inr n)
 
 -- the value if there is one; otherwise the element is left
 abbrev pub the_one : {A : Type 0} → Option A → Element → Result A (List Element)

@@ -53,6 +53,7 @@ joint-back (inr (inl x)) = refl
 joint-back (inr (inr (inl x))) = refl
 joint-back (inr (inr (inr m))) = refl
 
+-- the place of two operands and their operator, a choice
 unfoldable pub joint : Place Joint
 joint = of_choice joints joint_pick joint-same joint-back refl
 

@@ -11,9 +11,9 @@ use Rattle.zquery_rpn.specs.declared.element.operator.Joint.TheVariants.{Logical
 use Rattle.zquery_rpn.specs.Element.Operators.{operator}
 
 -- `P` holds of the first element, and `rest` of the others
-abbrev pub first : (Element → Type 0) → (List Element → Type 0) → List Element → Type 0
-first P rest [] = ⊥
-first P rest (n ∷ ns) = P n × rest ns
+abbrev pub first_and_rest : (Element → Type 0) → (List Element → Type 0) → List Element → Type 0
+first_and_rest P rest [] = ⊥
+first_and_rest P rest (n ∷ ns) = P n × rest ns
 
 -- op [0] EXPLICIT Operand
 abbrev pub op : Place Operand
@@ -25,10 +25,11 @@ WritesTree (OfTerm xs v) n = op.writes (AttrTerm (xs, v)) n
 WritesTree (OfSet name) n = op.writes (ResultSet name) n
 WritesTree (OfSetAttrs name xs) n = op.writes (ResultAttr (name, xs)) n
 WritesTree (Of o a b) n =
-    sequence (context 1) (first (WritesTree a) (first (WritesTree b) (required operator.writes (Logical o) ended))) n
+    sequence (context 1)
+    (first_and_rest (WritesTree a) (first_and_rest (WritesTree b) (required operator.writes (Logical o) ended))) n
 WritesTree (OfProx m a b) n =
     sequence (context 1)
-    (first (WritesTree a) (first (WritesTree b) (required operator.writes (ProxOperator m) ended))) n
+    (first_and_rest (WritesTree a) (first_and_rest (WritesTree b) (required operator.writes (ProxOperator m) ended))) n
 
 -- type-1 [1] IMPLICIT RPNQuery: attributeSet OBJECT IDENTIFIER, rpn RPNStructure
 abbrev pub WritesQuery : RpnQuery → Element → Type 0

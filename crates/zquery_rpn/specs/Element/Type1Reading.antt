@@ -80,13 +80,13 @@ query_in (n ∷ m ∷ []) = query_from (whole_of (oid (universal 6)) n) (tree_of
 query_in (n ∷ m ∷ k ∷ ns) = None
 
 -- the query of an element, whatever its tag
-abbrev pub query_of : Element → Option RpnQuery
-query_of (Primitive t bs) = None
-query_of (Constructed t f) = query_in (elements f)
+abbrev pub element_query : Element → Option RpnQuery
+element_query (Primitive t bs) = None
+element_query (Constructed t f) = query_in (elements f)
 
 -- the query of an element with the tag [1]
 abbrev pub query_at : Element → Option RpnQuery
-query_at n = if same_tag (tag_of n) (context 1) then query_of n else None
+query_at n = if same_tag (tag_of n) (context 1) then element_query n else None
 
 -- ---- writing
 

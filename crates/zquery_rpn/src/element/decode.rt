@@ -6,13 +6,13 @@ ghost use Rattle.zasn.specs.Place.{Place};
 ghost use Rattle.zasn.specs.Reading.{option_map};
 ghost use Rattle.zasn.specs.Table.{Elements};
 ghost use Rattle.zber.specs.Tags.{same_tag};
-ghost use Rattle.zasn.specs.Within.{found, sequence_of, whole_of};
+ghost use Rattle.zasn.specs.Within.{value_read, sequence_of, whole_of};
 ghost use Rattle.zasn.specs.Answers.{MeaningResult};
 ghost use Rattle.zasn.specs.Places.{alone, oid};
 ghost use Rattle.zquery_rpn.specs.Element.Operands.{attributes_term_parts, operand, set_attributes_parts};
 ghost use Rattle.zquery_rpn.specs.Element.Operators.{operator};
 ghost use Rattle.zquery_rpn.specs.Element.Type1.{IsQueryOfElement};
-ghost use Rattle.zquery_rpn.specs.Element.Type1Reading.{IsTreeResult, joined_tree_of, tree_and_element, of_joint, of_operand, query_at, query_in, query_of, tree_of};
+ghost use Rattle.zquery_rpn.specs.Element.Type1Reading.{IsTreeResult, joined_tree_of, tree_and_element, of_joint, of_operand, query_at, query_in, element_query, tree_of};
 ghost use Rattle.zquery_rpn.specs.QueryTrees.{rpn_tree};
 
 use crate::element::operator::Joint;
@@ -86,7 +86,7 @@ fn operand(alloc: Global, node: &Node) -> Result<Rpn, PartError>
 
 /// Reads one element, and no more, as an operand.
 fn only_operand(alloc: Global, nodes: &[Node]) -> Result<Rpn, PartError>
-    ensures { IsTreeResult (option_map of_operand (found ((alone operand).at nodes.now))) result }
+    ensures { IsTreeResult (option_map of_operand (value_read ((alone operand).at nodes.now))) result }
 {
     match nodes {
         [only] => operand(alloc, only),
@@ -177,7 +177,7 @@ fn query_in(alloc: Global, nodes: &[Node]) -> Result<Query, PartError>
 
 /// Reads an element of any tag as a query.
 fn query(alloc: Global, node: &Node) -> Result<Query, PartError>
-    ensures { MeaningResult (query_of node.now) result }
+    ensures { MeaningResult (element_query node.now) result }
 {
     match &node.body {
         Body::Prim(_) => Err(PartError::Misfit),

@@ -9,12 +9,12 @@ pub returns-in-Ok-clause-after : goal.returns-in-Ok-clause-after
 returns-in-Ok-clause-after c =
     subst (λ z. AfterTakeMessage c.args.c z c.args.meta.now c.take.new.self) (sym c.receipt_of.ensures)
     (taken_step c.one_transcript.ensures c.one_input.ensures c.args.c c.args.meta.now c.take.new.self
-    c.requires c.in-Ok.step c.in-Ok.ensures.answer (c.in-Ok.ensures.after tt))
+    c.requires c.in-Ok.step c.in-Ok.ensures.returned (c.in-Ok.ensures.after tt))
 
 pub returns-in_default : goal.returns-in_default
 returns-in_default c = record {
   after = taken_refusal c.one_transcript.ensures c.one_input.ensures c.args.c c.args.meta.now
-      c.take.new.self c.requires c.in-Err.error c.in_default.not-Memory c.in-Err.ensures.answer
+      c.take.new.self c.requires c.in-Err.error c.in_default.not-Memory c.in-Err.ensures.returned
       (c.in-Err.ensures.after c.in_default.not-Memory);
   err = tt;
   others = c.take.ensures.others;

@@ -30,11 +30,11 @@ accepted s reply (Err reason) added e answer copied closed other is =
     absurd (no_ok added e (other not) is)
 
 pub accept-requires : goal.accept-requires
-accept-requires c = (c.args.reply.now, c.judge-judged.ensures.answer)
+accept-requires c = (c.args.reply.now, c.judge-judged.ensures.returned)
 
 pub returns-in-Ok-clause-done : goal.returns-in-Ok-clause-done
 returns-in-Ok-clause-done c = λ p a d.
-    let judgement = c.judge-judged.ensures.answer in
+    let judgement = c.judge-judged.ensures.returned in
     processed_input c.args.target p c.args.reply.now c.judge-judged.result c.outcome_of.result _ _ _
     (judgement p.settings p.log a) c.in-Ok.ensures.taken
     (c.outcome_of.ensures ∙ ap outcome_of_reply (judgement p.settings p.log a c.in-Ok.ensures.taken))
@@ -43,9 +43,9 @@ returns-in-Ok-clause-done c = λ p a d.
 
 pub returns-in-Err-clause-part : goal.returns-in-Err-clause-part
 returns-in-Err-clause-part c = λ p a e. news_part c.args.target p c.args.reply.now c.judge-judged.result _ _
-    (c.judge-judged.ensures.answer p.settings p.log a) c.learn_verdict.ensures.part
+    (c.judge-judged.ensures.returned p.settings p.log a) c.learn_verdict.ensures.part
 
 pub returns-in-Err-clause-accepted : goal.returns-in-Err-clause-accepted
 returns-in-Err-clause-accepted c = λ m. accepted c.args.origin.now c.args.reply.now c.judge-judged.result
-    c.learn_verdict.result c.in-Err.field-0 c.judge-judged.ensures.answer c.judge-judged.ensures.copied
+    c.learn_verdict.result c.in-Err.field-0 c.judge-judged.ensures.returned c.judge-judged.ensures.copied
     c.learn_verdict.ensures.closed c.learn_verdict.ensures.refused c.in-Err.is

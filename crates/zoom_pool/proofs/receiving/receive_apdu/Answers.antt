@@ -38,4 +38,4 @@ untaken v error r old new memory refused same answers =
 pub returns-in-Err : goal.returns-in-Err
 returns-in-Err c = untaken c.args.apdu.now c.in-Err.error c.refused_apdu.result c.args.target.now c.receive.new.self
     c.refused_apdu.ensures.memory c.refused_apdu.ensures.refused (unchanged c.args.apdu.now c.in-Err.error c.args.target.now
-    c.receive.new.self c.in-Err.ensures.receives) c.in-Err.ensures.answers
+    c.receive.new.self c.in-Err.ensures.receives) c.in-Err.ensures.replies

@@ -11,14 +11,14 @@ returns-in-Ok-clause-on c =
 pub returns-in-Ok-clause-at : goal.returns-in-Ok-clause-at
 returns-in-Ok-clause-at c =
     takes_at c.one_transcript.ensures c.args.c c.args.meta.now c.take.new.self (Ok c.in-Ok.step)
-    c.is_message.result c.requires c.in-Ok.ensures.answer tt (c.in-Ok.ensures.after tt) (sym c.is_message.ensures)
+    c.is_message.result c.requires c.in-Ok.ensures.returned tt (c.in-Ok.ensures.after tt) (sym c.is_message.ensures)
 
 pub returns-in_default : goal.returns-in_default
 returns-in_default c = record {
   on = took_goes c.args.c c.args.meta.now c.take.new.self
       (c.in-Err.ensures.after c.in_default.not-Memory);
   at = takes_at c.one_transcript.ensures c.args.c c.args.meta.now c.take.new.self (Err c.in-Err.error)
-      false c.requires c.in-Err.ensures.answer c.in_default.not-Memory
+      false c.requires c.in-Err.ensures.returned c.in_default.not-Memory
       (c.in-Err.ensures.after c.in_default.not-Memory) refl;
   own = took_driven c.args.c c.args.meta.now c.take.new.self
       (c.in-Err.ensures.after c.in_default.not-Memory);

@@ -4,8 +4,8 @@ use Rattle.zber.proofs.FeedLemmas.{empty_is, is_whole, fed_of}
 use Rattle.zber.proofs.FramerLemmas.{empty_answer, front_answer, fault_answer, message_answer}
 use Rattle.zber.proofs.framer.Framer.next.Goals as goal
 
-pub returns-then-is_empty-2-clause-answers : goal.returns-then-is_empty-2-clause-answers
-returns-then-is_empty-2-clause-answers c = empty_answer _ _ _ _ _ _ (ap (λ z. z.stream) c.self.view_is) c.in_default.is (empty_is _ c.if-is_empty.ensures) (empty_is _ c.if-is_empty-2.ensures)
+pub returns-then-is_empty-2-clause-after : goal.returns-then-is_empty-2-clause-after
+returns-then-is_empty-2-clause-after c = empty_answer _ _ _ _ _ _ (ap (λ z. z.stream) c.self.view_is) c.in_default.is (empty_is _ c.if-is_empty.ensures) (empty_is _ c.if-is_empty-2.ensures)
 
 pub invariant_of-self-in_err-find : goal.invariant_of-self-in_err-find
 invariant_of-self-in_err-find c =
@@ -56,18 +56,18 @@ invariant_of-self-in-Front c =
       counted = rw (← c.in_ok-find.ensures.same) at (counted_on c.self.invariant.counted c.in_default.is (rw c.in-Front.is at c.in_ok-find.ensures.counts) (rw c.in_ok-find.ensures.same at (holds_pos c.self.inside.limit _ _ f.0.holds)));
     }
 
-pub returns-in_ok-node-in-Message-clause-answers : goal.returns-in_ok-node-in-Message-clause-answers
-returns-in_ok-node-in-Message-clause-answers c =
+pub returns-in_ok-node-in-Message-clause-after : goal.returns-in_ok-node-in-Message-clause-after
+returns-in_ok-node-in-Message-clause-after c =
     let f = rw c.in-Message.is at (c.in_ok-find.ensures.ok c.self.inside.limit (c.self.invariant.fed c.in_default.is)) in
     message_answer _ _ c.find.new.message _ _ _ _ _ _ (ap (λ z. z.stream) c.self.view_is) c.in_default.is c.in_ok-find.ensures.same (c.in_ok-node-in-Message.ensures.message c.self.inside.limit c.find.new.octets.items f) c.new.ensures
 
-pub returns-in-Front-clause-answers : goal.returns-in-Front-clause-answers
-returns-in-Front-clause-answers c =
+pub returns-in-Front-clause-after : goal.returns-in-Front-clause-after
+returns-in-Front-clause-after c =
     let f = rw c.in-Front.is at (c.in_ok-find.ensures.ok c.self.inside.limit (c.self.invariant.fed c.in_default.is)) in
     front_answer _ _ _ _ _ _ (ap (λ z. z.stream) c.self.view_is) c.in_default.is c.in_ok-find.ensures.same f.1
 
-pub returns-in-Fault-clause-answers : goal.returns-in-Fault-clause-answers
-returns-in-Fault-clause-answers c =
+pub returns-in-Fault-clause-after : goal.returns-in-Fault-clause-after
+returns-in-Fault-clause-after c =
     let f = rw c.in-Fault.is at (c.in_ok-find.ensures.ok c.self.inside.limit (c.self.invariant.fed c.in_default.is)) in
     fault_answer _ _ _ _ _ _ c.in-Fault.kind _ (ap (λ z. z.stream) c.self.view_is) c.in_default.is c.in_ok-find.ensures.same f
 

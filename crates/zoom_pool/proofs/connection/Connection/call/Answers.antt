@@ -12,13 +12,13 @@ returns-clause-after c = rw (← c.self.view_is) (λ done settings events p l.
     let put : joined c.put.new.waiting.items ≡ joined c.self.inside.waiting.items ++ c.in_ok-sent.sent.octets =
     ap joined items ∙ joined_more c.self.inside.waiting.items c.in_ok-sent.sent.octets in
     called settings events p _ _ (call_of c.args.call.now) c.in_ok-sent.sent l stopped c.in_ok-sent.ensures.framed
-    (c.in_ok-sent.ensures.answer p.settings p.log l.matches.origin tt)
+    (c.in_ok-sent.ensures.returned p.settings p.log l.matches.origin tt)
     (c.in_ok-sent.ensures.after p.settings p.log l.matches.origin tt)
     refl refl refl refl put)
 
 pub returns-clause-put : goal.returns-clause-put
 returns-clause-put c = rw (← c.self.view_is) (λ p m.
     let items : c.put.new.waiting.items ≡ c.self.inside.waiting.items ++ c.in_ok-sent.sent.octets ∷ [] = search rules in
-    let answers = c.in_ok-sent.ensures.answer p.settings p.log m.origin tt in
+    let answers = c.in_ok-sent.ensures.returned p.settings p.log m.origin tt in
     ap joined items ∙ joined_more c.self.inside.waiting.items c.in_ok-sent.sent.octets
     ∙ ap (λ z. joined c.self.inside.waiting.items ++ z) (sent_octets p (call_of c.args.call.now) c.in_ok-sent.sent answers))

@@ -22,7 +22,7 @@ returns-in-Ok-Some-clause-done c = λ p m d.
     let s : is_stopped (state_at p) ≡ false = sym (ap is_stopped (c.state.ensures.state p m)) ∙ sym c.is_stopped.ensures
     ∙ c.if-is_stopped.false in
     let n = subst (AreConsistent p) (sym c.self.view_is) m in
-    let draws = rw c.in-Ok-Some.field-0-is at (c.in-Ok-Some.ensures.answer p (going _ p.stop s) n.frames) in
+    let draws = rw c.in-Ok-Some.field-0-is at (c.in-Ok-Some.ensures.returned p (going _ p.stop s) n.frames) in
     let k : Link = record {
       origin = c.process-answer.new.origin;
       framer = c.next_message.new.framer.stream;
@@ -44,7 +44,7 @@ returns-in-Ok-Some-clause-memory c = λ p m e.
     let s : is_stopped (state_at p) ≡ false = sym (ap is_stopped (c.state.ensures.state p m)) ∙ sym c.is_stopped.ensures
     ∙ c.if-is_stopped.false in
     let n = subst (AreConsistent p) (sym c.self.view_is) m in
-    let draws = rw c.in-Ok-Some.field-0-is at (c.in-Ok-Some.ensures.answer p (going _ p.stop s) n.frames) in
+    let draws = rw c.in-Ok-Some.field-0-is at (c.in-Ok-Some.ensures.returned p (going _ p.stop s) n.frames) in
     let k : Link = record {
       origin = c.process-answer.new.origin;
       framer = c.next_message.new.framer.stream;
@@ -65,7 +65,7 @@ returns-in-Ok-Some-clause-part c = λ p m e.
     let s : is_stopped (state_at p) ≡ false = sym (ap is_stopped (c.state.ensures.state p m)) ∙ sym c.is_stopped.ensures
     ∙ c.if-is_stopped.false in
     let n = subst (AreConsistent p) (sym c.self.view_is) m in
-    let draws = rw c.in-Ok-Some.field-0-is at (c.in-Ok-Some.ensures.answer p (going _ p.stop s) n.frames) in
+    let draws = rw c.in-Ok-Some.field-0-is at (c.in-Ok-Some.ensures.returned p (going _ p.stop s) n.frames) in
     news_of_outcome c.args.target p _ c.next_message.new.framer.stream _ _ s draws.1 (c.process-answer.ensures.part p n.origin e)
 
 pub returns-in-Ok-None-clause-done : goal.returns-in-Ok-None-clause-done
@@ -73,7 +73,7 @@ returns-in-Ok-None-clause-done c = λ p m d.
     let s : is_stopped (state_at p) ≡ false = sym (ap is_stopped (c.state.ensures.state p m)) ∙ sym c.is_stopped.ensures
     ∙ c.if-is_stopped.false in
     let n = subst (AreConsistent p) (sym c.self.view_is) m in
-    let draws = rw c.in-Ok-None.field-0-is at (c.in-Ok-None.ensures.answer p (going _ p.stop s) n.frames) in
+    let draws = rw c.in-Ok-None.field-0-is at (c.in-Ok-None.ensures.returned p (going _ p.stop s) n.frames) in
     let k : Link = record {
       origin = c.self.inside.origin;
       framer = c.next_message.new.framer.stream;
@@ -92,14 +92,14 @@ returns-in-Ok-None-clause-done c = λ p m d.
       stop = n.stop;
     }
     in
-    lacked c.args.target p c.lack.result c.lack.new.self c.args.knowledge.now (c.lack.ensures.answer p now s draws.2)
+    lacked c.args.target p c.lack.result c.lack.new.self c.args.knowledge.now (c.lack.ensures.returned p now s draws.2)
 
 pub returns-in-Fault-clause-done : goal.returns-in-Fault-clause-done
 returns-in-Fault-clause-done c = λ p m d.
     let s : is_stopped (state_at p) ≡ false = sym (ap is_stopped (c.state.ensures.state p m)) ∙ sym c.is_stopped.ensures
     ∙ c.if-is_stopped.false in
     let n = subst (AreConsistent p) (sym c.self.view_is) m in
-    let draws = rw c.in-Fault.is at (c.in-Err.ensures.answer p (going _ p.stop s) n.frames) in
+    let draws = rw c.in-Fault.is at (c.in-Err.ensures.returned p (going _ p.stop s) n.frames) in
     let reason = reasons.Frame c.in-Fault.kind c.in-Fault.at in
     let k : Link = record {
       origin = c.self.inside.origin;

@@ -13,7 +13,7 @@ returns-in-Ok-clause-after c =
       drivers = slice_set c.self.inside.drivers.items c.args.c c.note_sent.new.self;
     } in
     rw (← c.self.view_is) (admitted_to (Unit {0}) c.one_transcript.ensures c.args.c (call_of c.args.call.now) old new
-    c.index_mut.result.now c.note_sent.new.self lt (c.in-Ok.ensures.after tt) c.in-Ok.ensures.answer
+    c.index_mut.result.now c.note_sent.new.self lt (c.in-Ok.ensures.after tt) c.in-Ok.ensures.returned
     (driver_at old.drivers old.pool.connections c.args.c _ c.index_mut.result.now c.self.invariant lt c.index_mut.ensures.value)
     c.note_sent.ensures refl c.in-Ok.ensures.rest.size)
 
@@ -34,6 +34,6 @@ returns-in_default-clause-after c =
     } in
     rw (← c.self.view_is) (refused_to (Unit {0}) c.one_transcript.ensures c.sent_requests.ensures c.args.c (call_of c.args.call.now)
     c.in-Err.reason old new c.index_mut-in_default.result.now c.note_refused.new.self c.in_default.not-Memory lt
-    (c.in-Err.ensures.after c.in_default.not-Memory) c.in-Err.ensures.answer
+    (c.in-Err.ensures.after c.in_default.not-Memory) c.in-Err.ensures.returned
     (driver_at old.drivers old.pool.connections c.args.c _ c.index_mut-in_default.result.now c.self.invariant lt c.index_mut-in_default.ensures.value)
     c.note_refused.ensures refl c.in-Err.ensures.rest.size)

@@ -7,11 +7,11 @@ use Rattle.zoom_pool.proofs.Pending.{pending_call}
 use Rattle.zoom_pool.proofs.Pools.{at_index, gained, accepts_call, waits_at, waits_put, else_same}
 use Rattle.zoom_pool.proofs.pool.Pool.call.Goals as goal
 
-pub returns-clause-answer : goal.returns-clause-answer
-returns-clause-answer c = rw (← c.self.view_is) (λ settings partial h a done.
+pub returns-clause-returned : goal.returns-clause-returned
+returns-clause-returned c = rw (← c.self.view_is) (λ settings partial h a done.
     let l = at_index settings h a.transcript _ c.args.c _ c.index_mut.result.now (rw (← c.self.view_is) at c.requires)
     a.stands c.index_mut.ensures.value in
-    c.call.ensures.answer (a.transcript c.args.c) l.matches done)
+    c.call.ensures.returned (a.transcript c.args.c) l.matches done)
 
 pub returns-clause-after : goal.returns-clause-after
 returns-clause-after c = rw (← c.self.view_is) (λ done.

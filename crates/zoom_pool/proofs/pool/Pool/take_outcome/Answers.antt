@@ -4,8 +4,8 @@ use Rattle.zoom_pool.proofs.Pools.{at_index, waits_at, waits_put, others_same}
 use Rattle.zoom_pool.proofs.PoolTakes.{taken_after, kept_up_to}
 use Rattle.zoom_pool.proofs.pool.Pool.take_outcome.Goals as goal
 
-pub returns-clause-answer : goal.returns-clause-answer
-returns-clause-answer c = rw (← c.self.view_is) (λ settings partial h a done.
+pub returns-clause-returned : goal.returns-clause-returned
+returns-clause-returned c = rw (← c.self.view_is) (λ settings partial h a done.
     let l = at_index settings h a.transcript _ c.args.c _ c.index_mut.result.now (rw (← c.self.view_is) at c.requires)
     a.stands c.index_mut.ensures.value in
     let t = c.take-taken.ensures.done (a.transcript c.args.c) l.matches done in

@@ -5,10 +5,10 @@ use Rattle.std.proofs.lemmas.Result.{IfOk-weaker}
 use Rattle.zoom_pool.specs.PoolSteps.{IsCallResult, IsRequestPut}
 use Rattle.zoom_pool.proofs.result_set.ResultSet.present_ranges.Goals as goal
 
-pub returns-clause-answer : goal.returns-clause-answer
-returns-clause-answer c =
+pub returns-clause-returned : goal.returns-clause-returned
+returns-clause-returned c =
     let asks : call_of c.ranges_call-call.result ≡ Present c.args.op c.args.self.set c.args.ranges = search rules in
-    subst (λ z. IsCallResult c.args.self.c z c.args.pool.now c.call-answer.result) asks c.call-answer.ensures.answer
+    subst (λ z. IsCallResult c.args.self.c z c.args.pool.now c.call-answer.result) asks c.call-answer.ensures.returned
 
 pub returns-clause-put : goal.returns-clause-put
 returns-clause-put c =

@@ -2,8 +2,8 @@ use Rattle.zorigin.specs.Standings.{Init}
 use Rattle.zorigin.proofs.CallSteps.{called_after, call_answered, call_admissible}
 use Rattle.zorigin.proofs.origin.Origin.init.Goals as goal
 
-pub returns-clause-answer : goal.returns-clause-answer
-returns-clause-answer c = λ settings log after called. call_answered settings log Init after (c.make_init.ensures.answer called)
+pub returns-clause-returned : goal.returns-clause-returned
+returns-clause-returned c = λ settings log after called. call_answered settings log Init after (c.make_init.ensures.returned called)
 
 pub returns-clause-after : goal.returns-clause-after
 returns-clause-after c = λ settings log after called. called_after settings log Init after (c.make_init.ensures.after called)

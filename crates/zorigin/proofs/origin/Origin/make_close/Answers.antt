@@ -3,14 +3,14 @@ use Rattle.zorigin.specs.Standings.{Close}
 use Rattle.zorigin.proofs.Calling.{refused_early, unsent, sent_so, ready_close, close_late}
 use Rattle.zorigin.proofs.origin.Origin.make_close.Goals as goal
 
-pub returns-then-not-is_ready-clause-answer : goal.returns-then-not-is_ready-clause-answer
-returns-then-not-is_ready-clause-answer c = λ _. (refused_early _ (Close) _ (close_late c.args.self.now (search rules))).answer
+pub returns-then-not-is_ready-clause-returned : goal.returns-then-not-is_ready-clause-returned
+returns-then-not-is_ready-clause-returned c = λ _. (refused_early _ (Close) _ (close_late c.args.self.now (search rules))).answer
 
 pub returns-then-not-is_ready-clause-after : goal.returns-then-not-is_ready-clause-after
 returns-then-not-is_ready-clause-after c = λ _. (refused_early _ (Close) _ (close_late c.args.self.now (search rules))).new
 
-pub returns-in_err-sent-clause-answer : goal.returns-in_err-sent-clause-answer
-returns-in_err-sent-clause-answer c =
+pub returns-in_err-sent-clause-returned : goal.returns-in_err-sent-clause-returned
+returns-in_err-sent-clause-returned c =
     let is : c.from_residual.result ≡ Err c.in_err-sent.field-0.0 = search rules in
     let ready = ready_close c.args.self.now (search rules) in
     rw is (λ m. (unsent c.args.self.now (Close) _ c.in_err-sent.field-0.0 ready (search rules) m).answer)
@@ -21,8 +21,8 @@ returns-in_err-sent-clause-after c =
     let ready = ready_close c.args.self.now (search rules) in
     rw is (λ m. (unsent c.args.self.now (Close) _ c.in_err-sent.field-0.0 ready (search rules) m).new)
 
-pub returns-clause-answer : goal.returns-clause-answer
-returns-clause-answer c =
+pub returns-clause-returned : goal.returns-clause-returned
+returns-clause-returned c =
     let ready = ready_close c.args.self.now (search rules) in
     λ _. (sent_so c.args.self.now (Close) _ c.in_ok-sent.sent ready (search rules)).answer
 

@@ -2,8 +2,8 @@ use Rattle.zorigin.specs.Standings.{Present}
 use Rattle.zorigin.proofs.CallSteps.{called_after, call_answered, call_admissible}
 use Rattle.zorigin.proofs.origin.Origin.present_ranges.Goals as goal
 
-pub returns-clause-answer : goal.returns-clause-answer
-returns-clause-answer c = λ settings log after called. call_answered settings log (Present c.args.op c.args.set c.args.ranges.now) after (c.make_present.ensures.answer called)
+pub returns-clause-returned : goal.returns-clause-returned
+returns-clause-returned c = λ settings log after called. call_answered settings log (Present c.args.op c.args.set c.args.ranges.now) after (c.make_present.ensures.returned called)
 
 pub returns-clause-after : goal.returns-clause-after
 returns-clause-after c = λ settings log after called. called_after settings log (Present c.args.op c.args.set c.args.ranges.now) after (c.make_present.ensures.after called)
