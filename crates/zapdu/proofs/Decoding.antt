@@ -7,7 +7,7 @@ use Rattle.zasn.specs.Laws.{IsMisfit}
 use Rattle.zber.proofs.Runs.{elements-forest}
 use Rattle.zasn.specs.declared.error.PartError.{PartError}
 use Rattle.zasn.specs.declared.error.PartError.TheVariants.{Misfit}
-use Rattle.zasn.specs.Answers.{CountedReadingResult, counted_reading}
+use Rattle.zasn.specs.Results.{CountedReadingResult, counted_reading}
 use Rattle.zasn.proofs.Withins.{value_is_no_misfit, err_is}
 use Rattle.zapdu.specs.declared.apdu.Apdu.{Apdu}
 use Rattle.zapdu.specs.declared.apdu.Kind.{Kind}

@@ -5,7 +5,7 @@ use Rattle.zber.specs.Elements.{Element}
 use Rattle.zasn.specs.Place.{Place}
 use Rattle.zasn.specs.declared.error.BuildError.{BuildError}
 use Rattle.zasn.specs.declared.error.BuildError.TheVariants.{NotSpellable, Memory}
-use Rattle.zasn.specs.Answers.{WritingResult, BuildResult}
+use Rattle.zasn.specs.Results.{WritingResult, BuildResult}
 use Rattle.zasn.specs.Places.{within}
 use Rattle.zapdu.specs.declared.apdu.Apdu.{Apdu}
 use Rattle.zapdu.specs.declared.apdu.Apdu.TheVariants as apdus

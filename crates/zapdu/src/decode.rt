@@ -1,6 +1,6 @@
 //! Reads elements as APDUs, records and diagnostics.
 ghost use Rattle.std.specs.Prelude.{◌≡◌, IfOk, IfSome, IfNone};
-ghost use Rattle.zasn.specs.Answers.{ReadingResult, OwnReadingResult, CountedReadingResult};
+ghost use Rattle.zasn.specs.Results.{ReadingResult, OwnReadingResult, CountedReadingResult};
 ghost use Rattle.zapdu.specs.declared.productions.record.Record.{Record};
 ghost use Rattle.zapdu.specs.declared.productions.diagnostic.DiagRec.{DiagRec};
 ghost use Rattle.zapdu.specs.Productions.Records.{WritesRecord};

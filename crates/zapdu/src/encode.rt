@@ -1,5 +1,5 @@
 //! Builds the elements of APDUs, records and diagnostics.
-ghost use Rattle.zasn.specs.Answers.{BuildResult, WritingResult};
+ghost use Rattle.zasn.specs.Results.{BuildResult, WritingResult};
 ghost use Rattle.zapdu.specs.Productions.Records.{WritesRecord, record_spelling};
 ghost use Rattle.zapdu.specs.Productions.Diagnostics.{WritesDiag, diag_spelling};
 ghost use Rattle.zapdu.specs.Writes.{Writes, apdu_spelling};

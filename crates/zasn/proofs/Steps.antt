@@ -5,7 +5,7 @@ use Rattle.zber.specs.Elements.{Element}
 use Rattle.zasn_tables.specs.Reading.{◌>>=◌, optional_at}
 use Rattle.zasn.specs.declared.error.PartError.{PartError}
 use Rattle.zasn.specs.declared.error.PartError.TheVariants.{Misfit, Memory}
-use Rattle.zasn.specs.Answers.{ReadingResult, StepResult}
+use Rattle.zasn.specs.Results.{ReadingResult, StepResult}
 
 -- a step that went well, before one that failed
 pub then_fails : {A B : Type 0} (r : Result A (List Element)) (x : A) (f : A → Result B (List Element)) (e : PartError) (left : List Element) → r ≡ Ok x → ReadingResult (f x) (Err e) left → ReadingResult (r >>= f) (Err e) left

@@ -8,7 +8,7 @@ use Rattle.zasn_tables.specs.Within.{value_read, sequence_of, any_at, all_meanin
 use Rattle.zber.proofs.Runs.{elements-forest}
 use Rattle.zasn.specs.declared.error.PartError.{PartError}
 use Rattle.zasn.specs.declared.error.PartError.TheVariants.{Misfit, Memory}
-use Rattle.zasn.specs.Answers.{ReadingResult, OwnReadingResult, MeaningResult, counted_reading}
+use Rattle.zasn.specs.Results.{ReadingResult, OwnReadingResult, MeaningResult, counted_reading}
 
 pub found_means : {A : Type 0} (r : Result A (List Element)) (a : Result A PartError) (left : List Element) → ReadingResult r a left → MeaningResult (value_read r) a
 found_means r (Ok x) left h = rw h refl

@@ -1,4 +1,4 @@
-pub mod Answers
+pub mod Results
 pub mod Errors
 pub mod Places
 pub use Rattle.zasn_tables.specs.Building

@@ -2,7 +2,7 @@
 ghost use Rattle.std.specs.Prelude.{◌≡◌, [], ◌∷◌, Some, None, IfSome, IfNone};
 ghost use Rattle.zasn_tables.specs.Within.{any_at, around, sequence_of};
 ghost use Rattle.zasn_tables.specs.Place.{Place};
-ghost use Rattle.zasn.specs.Answers.{MeaningResult, BuildResult};
+ghost use Rattle.zasn.specs.Results.{MeaningResult, BuildResult};
 ghost use Rattle.zasn.specs.Places.{kept};
 
 use crate::build::PartsBuf;

@@ -3,7 +3,7 @@ ghost use Rattle.std.specs.Prelude.{◌≡◌, [], ◌∷◌, ◌++◌, Some, On
 ghost use Rattle.zber.specs.Elements.{cons};
 ghost use Rattle.zasn_tables.specs.Building.{optional_put, required_put};
 ghost use Rattle.zasn_tables.specs.Place.{Place};
-ghost use Rattle.zasn.specs.Answers.{BuildStepResult};
+ghost use Rattle.zasn.specs.Results.{BuildStepResult};
 ghost use Rattle.zasn.specs.Places.{any, explicit, kept, strings};
 
 use crate::any::{write_any, write_kept};

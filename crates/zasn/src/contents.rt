@@ -4,7 +4,7 @@ ghost use Rattle.zber.specs.AsnTags.{AsnTag};
 ghost use Rattle.zber.specs.Elements.{tag_of};
 ghost use Rattle.zber.specs.Tags.{among};
 ghost use Rattle.zasn_tables.specs.Place.{Place};
-ghost use Rattle.zasn.specs.Answers.{MeaningResult, BuildResult};
+ghost use Rattle.zasn.specs.Results.{MeaningResult, BuildResult};
 ghost use Rattle.zasn.specs.Places.{octets, integer, boolean, oid, bits, opaque};
 
 use crate::error::{BuildError, PartError};

@@ -1,6 +1,6 @@
 //! Why elements were not read, or not built.
 ghost use Rattle.std.specs.Prelude.{◌≡◌};
-ghost use Rattle.zasn.specs.Answers.{part_error_of};
+ghost use Rattle.zasn.specs.Results.{part_error_of};
 ghost use Rattle.zasn.specs.Errors.{part_error_name, build_error_name};
 
 use std::alloc::{AllocError, AllocFailed};
@@ -54,7 +54,7 @@ impl<T: Drop> From<AllocFailed<T>> for PartError {
 
 impl From<ValueError> for PartError {
     ghost use Rattle.std.specs.Prelude.{◌≡◌};
-    ghost use Rattle.zasn.specs.Answers.{part_error_of};
+    ghost use Rattle.zasn.specs.Results.{part_error_of};
 
     ghost from_gives = { λ v e. e ≡ part_error_of v };
 

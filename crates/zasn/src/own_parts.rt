@@ -6,7 +6,7 @@ ghost use Rattle.zasn_tables.specs.Reading.{optional_at, required_at, ended_at};
 ghost use Rattle.zasn_tables.specs.Place.{Place};
 ghost use Rattle.zber.specs.Tags.{among};
 ghost use Rattle.zasn_tables.specs.Within.{alone_at, sequence_of};
-ghost use Rattle.zasn.specs.Answers.{OwnStepResult, ReadingResult, has_first_tag, has_first_tag_in};
+ghost use Rattle.zasn.specs.Results.{OwnStepResult, ReadingResult, has_first_tag, has_first_tag_in};
 
 use crate::contents::{Contents, Tagged};
 use crate::error::PartError;

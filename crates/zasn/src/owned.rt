@@ -3,7 +3,7 @@ ghost use Rattle.std.specs.Prelude.{◌≡◌, [], ◌∷◌, IfOk};
 ghost use Rattle.zasn_tables.specs.Table.{Elements};
 ghost use Rattle.zasn_tables.specs.Place.{Place};
 ghost use Rattle.zasn_tables.specs.Within.{alone_at, any_at, around, sequence_of};
-ghost use Rattle.zasn.specs.Answers.{ReadingResult, OwnReadingResult, BuildResult, MeaningResult, BuildStepResult};
+ghost use Rattle.zasn.specs.Results.{ReadingResult, OwnReadingResult, BuildResult, MeaningResult, BuildStepResult};
 ghost use Rattle.zasn.specs.Places.{explicit};
 
 use crate::any::write_around;

@@ -4,7 +4,7 @@ ghost use Rattle.zasn_tables.specs.Reading.{optional_at, required_at, ended_at};
 ghost use Rattle.zasn_tables.specs.Place.{Place};
 ghost use Rattle.zasn_tables.specs.Table.{Elements};
 ghost use Rattle.zasn_tables.specs.Within.{alone_at, any_at, list_meaning, sequence_of};
-ghost use Rattle.zasn.specs.Answers.{StepResult, ReadingResult, has_first_tag};
+ghost use Rattle.zasn.specs.Results.{StepResult, ReadingResult, has_first_tag};
 ghost use Rattle.zasn.specs.Places.{alone, kept, text_under};
 
 use crate::any::read_any;

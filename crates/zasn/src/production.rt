@@ -3,7 +3,7 @@ ghost use Rattle.std.specs.Prelude.{◌≡◌, [], ◌∷◌, Some, IfOk};
 ghost use Rattle.zasn_tables.specs.Table.{Elements};
 ghost use Rattle.zasn_tables.specs.Place.{Place};
 ghost use Rattle.zasn_tables.specs.Within.{sequence_of, around, alone_at};
-ghost use Rattle.zasn.specs.Answers.{ReadingResult, BuildStepResult, MeaningResult, BuildResult};
+ghost use Rattle.zasn.specs.Results.{ReadingResult, BuildStepResult, MeaningResult, BuildResult};
 ghost use Rattle.zasn.specs.Places.{explicit};
 
 use crate::build::PartsBuf;

@@ -1,7 +1,7 @@
 //! SEQUENCE OF: values in order, each in an element with a tag of its own.
 ghost use Rattle.std.specs.Prelude.{◌≡◌};
 ghost use Rattle.zasn_tables.specs.Within.{all_meanings, all_spellings, whole_of};
-ghost use Rattle.zasn.specs.Answers.{MeaningResult, BuildResult};
+ghost use Rattle.zasn.specs.Results.{MeaningResult, BuildResult};
 ghost use Rattle.zasn.specs.Places.{list};
 
 use crate::build::PartsBuf;

@@ -1,7 +1,7 @@
 //! SEQUENCE OF strings: texts in order, each in an element with the same tag.
 ghost use Rattle.zasn_tables.specs.Within.{all_meanings, all_spellings, list_meaning};
 ghost use Rattle.zasn_tables.specs.Meanings.{octets_spelling};
-ghost use Rattle.zasn.specs.Answers.{MeaningResult, BuildResult};
+ghost use Rattle.zasn.specs.Results.{MeaningResult, BuildResult};
 ghost use Rattle.zasn.specs.Places.{strings, text_under};
 
 use crate::build::PartsBuf;

@@ -48,10 +48,10 @@ pub fn halves(row: &str) -> (&str, &str) {
 }
 
 /// Whether it was found to hold: not where it could not be told.
-pub fn is_true<E: Drop>(answer: Result<bool, E>) -> bool
-    ensures { IsTrue result ↔ (answer ≡ Ok true) }
+pub fn is_true<E: Drop>(value: Result<bool, E>) -> bool
+    ensures { IsTrue result ↔ (value ≡ Ok true) }
 {
-    answer.unwrap_or(false)
+    value.unwrap_or(false)
 }
 
 /// Whether a text is there, and is the due one.

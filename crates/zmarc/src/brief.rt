@@ -89,7 +89,7 @@ fn put_pieces(
 /// `octets` is one record of ISO 2709, of any length; more octets behind the record do no harm. `format` says which
 /// tags and codes the record has.
 ///
-/// The call answers `false`, and appends nothing, where the octets are no record (`is_record`). It answers `true` and
+/// Returns `false`, and appends nothing, where the octets are no record (`is_record`). Returns `true` and
 /// may append nothing where the record has nothing to be shown. It fails only if no memory is found; then `out` is as
 /// it was.
 #[tactic(auto, unfolding(crate::specs::Briefs::brief), using(crate::proofs::SafeTheory::brief_is_safe))]

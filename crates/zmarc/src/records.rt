@@ -182,7 +182,7 @@ pub fn is_record(octets: &[u8]) -> bool
 /// field has a tag of another length. The octets end before the field's terminator, and begin with the indicators where
 /// the field has any. They are the record's own: nothing is copied, and nothing makes them safe to print.
 ///
-/// The answer is `None` where the octets are no record, and where no field has the tag. An entry of the directory that
+/// Returns `None` where the octets are no record, and where no field has the tag. An entry of the directory that
 /// tells of no field (`count_lost`) is left out.
 #[tactic(auto, unfolding(crate::specs::Records::first_field), using(crate::proofs::FieldTheory::first_field_none))]
 pub fn first_field<'a>(octets: &'a [u8], tag: &[u8]) -> Option<&'a [u8]>

@@ -42,7 +42,7 @@ pub(crate) fn find_subfield(code: u8, field: &[u8]) -> Option<&[u8]>
 /// data are the record's own octets, without the delimiter and the code: nothing is copied, and nothing makes them safe
 /// to print.
 ///
-/// The answer is `None` where there is no such field, where that field has no such subfield, and where the data of the
+/// Returns `None` where there is no such field, where that field has no such subfield, and where the data of the
 /// first such subfield are empty.
 #[tactic(auto, unfolding(crate::specs::Subfields::subfield_in))]
 pub fn subfield_in<'a>(octets: &'a [u8], tag: &[u8], code: u8) -> Option<&'a [u8]>

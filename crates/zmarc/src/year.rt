@@ -101,7 +101,7 @@ fn find_coded_year(octets: &[u8], format: Format) -> Option<&[u8]>
 
 /// The year of a record, in four digits: the first four that stand side by side where the record tells of its
 /// publication (MARC 21: 264 $c, 260 $c, 260 $g; UNIMARC: 214 $d, 210 $d), else the first date of the coded field (008;
-/// 100 $a). It answers `None` where the record has neither, and fails only if no memory is found.
+/// 100 $a). Returns `None` where the record has neither, and fails only if no memory is found.
 ///
 /// Ask it of a record alone (`is_record`): of other octets the time it takes may grow with the square of their number.
 #[tactic(auto, unfolding(crate::specs::Years::year))]

@@ -3,7 +3,7 @@ use Rattle.std.proofs.Common.{◌≡◌, ℕ, List, true, false, Some, Result, O
 use Rattle.zber.specs.Elements.{Element}
 use Rattle.zquery.specs.BuildError.{BuildError}
 use Rattle.zquery.specs.BuildError.TheVariants as builds
-use Rattle.zquery.specs.Answers.{WritingResult, BuildResult}
+use Rattle.zquery.specs.Results.{WritingResult, BuildResult}
 use Rattle.zquery.specs.declared.notation.print.PrintError.{PrintError}
 use Rattle.zquery.specs.declared.notation.print.PrintError.TheVariants as prints
 use Rattle.zquery.specs.Trees.{RpnQuery}

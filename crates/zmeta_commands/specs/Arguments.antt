@@ -66,8 +66,8 @@ HelpResult old new (Err _) = ⊥
 
 -- help is printed; an error is reported only if help cannot be printed
 abbrev pub AfterHelp : Outputs → Outputs → Status → Type 0
-AfterHelp before after status = (answer : Result (Unit {0}) Fault) × HelpResult before.output after.output answer
-    × AfterEnd (as_done answer) before.errors after.errors status
+AfterHelp before after status = (result : Result (Unit {0}) Fault) × HelpResult before.output after.output result
+    × AfterEnd (as_done result) before.errors after.errors status
 
 -- no command was run: help is printed, or nothing is; that no memory was found is reported, and the text for wrong
 -- arguments is for `clap`

@@ -115,7 +115,7 @@ AfterReport old new (Err f) = AfterTell old new f
 -- standard error and the status after a command with this result: a fault is reported, and a failure of standard
 -- error makes the status `Refused`, unless it is `Memory`
 abbrev pub AfterEnd : Result Status Fault → Device → Device → Status → Type 0
-AfterEnd answer old new status = AfterReport old new answer × (status ≡ end_status new.has_failed answer)
+AfterEnd result old new status = AfterReport old new result × (status ≡ end_status new.has_failed result)
 
 -- the stream that a fault names has failed: the one read, or the one written
 abbrev pub IsOfStream : {A : Type 0} → Device → Device → Result A Fault → Type 0

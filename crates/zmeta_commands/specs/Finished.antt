@@ -183,9 +183,9 @@ FinishResult contents r saved before after (Err _) = ⊥
 -- is reported
 abbrev pub AfterFinished
     : {M : Type 0} → (M → Option (List ℕ)) → Finished → Option (List ℕ) → Outputs → Outputs → Status → Type 0
-AfterFinished contents r saved before after status = (answer : Result Status Fault) × (between : Device)
-    × FinishResult contents r saved before (record after { errors = between }) answer
-    × AfterEnd answer between after.errors status
+AfterFinished contents r saved before after status = (result : Result Status Fault) × (between : Device)
+    × FinishResult contents r saved before (record after { errors = between }) result
+    × AfterEnd result between after.errors status
 
 -- ---- a command that asks
 

@@ -131,6 +131,6 @@ JoinResult view octets paths old new (Err f) = IsRefusedAmong octets paths f × 
 
 -- the streams and the status after `join`
 abbrev pub AfterJoin : View → (List ℕ → Option (List ℕ)) → List (List ℕ) → Outputs → Outputs → Status → Type 0
-AfterJoin view octets paths before after status = (answer : Result Status Fault)
-    × JoinResult view octets paths before.output after.output answer
-    × AfterEnd answer before.errors after.errors status
+AfterJoin view octets paths before after status = (result : Result Status Fault)
+    × JoinResult view octets paths before.output after.output result
+    × AfterEnd result before.errors after.errors status

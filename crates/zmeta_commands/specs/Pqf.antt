@@ -59,5 +59,5 @@ PqfResult text old new (Err _) = ⊥
 
 -- the streams and the status after `pqf`
 abbrev pub AfterPqf : List ℕ → Outputs → Outputs → Status → Type 0
-AfterPqf text before after status = (answer : Result (Unit {0}) Fault)
-    × PqfResult text before.output after.output answer × AfterEnd (as_done answer) before.errors after.errors status
+AfterPqf text before after status = (result : Result (Unit {0}) Fault)
+    × PqfResult text before.output after.output result × AfterEnd (as_done result) before.errors after.errors status

@@ -4,7 +4,7 @@ use Rattle.std.specs.Fmt.{decimal}
 use Rattle.std.specs.Option.{option_map}
 use Rattle.zber.specs.declared.oid.OidError.{OidError}
 use Rattle.zber.specs.declared.oid.OidError.TheVariants as oids
-use Rattle.zber.specs.OidAnswers.{DottedResult}
+use Rattle.zber.specs.OidResults.{DottedResult}
 use Rattle.zknow.specs.declared.fact.Fact.{Fact}
 use Rattle.zknow_records.specs.declared.left_out.LeftOut.{LeftOut}
 use Rattle.zknow_records.specs.Records.{records_octets, left_out}
@@ -118,6 +118,6 @@ RecordsResult e octets paths before after (Err f) = IsRefusedAmong octets paths 
 -- the streams and the status after `records`; `between` is standard error before a fault is reported
 abbrev pub AfterRecords
     : WantedRecords → (List ℕ → Option (List ℕ)) → List (List ℕ) → Outputs → Outputs → Status → Type 0
-AfterRecords e octets paths before after status = (answer : Result Status Fault) × (between : Device)
-    × RecordsResult e octets paths before (record after { errors = between }) answer
-    × AfterEnd answer between after.errors status
+AfterRecords e octets paths before after status = (result : Result Status Fault) × (between : Device)
+    × RecordsResult e octets paths before (record after { errors = between }) result
+    × AfterEnd result between after.errors status

@@ -47,6 +47,6 @@ IsServiceEnd path (Err fault) = IsOfService path fault
 
 -- standard error and the status after `serve`
 abbrev pub AfterServe : List ℕ → List ℕ → Option (List ℕ) → Device → Device → Status → Type 0
-AfterServe name world file before after status = (answer : Result (Unit {0}) Fault)
-    × IfSome file (λ octets. ServeResult name octets answer) × IsServiceEnd world answer
-    × AfterEnd (as_done answer) before after status
+AfterServe name world file before after status = (result : Result (Unit {0}) Fault)
+    × IfSome file (λ octets. ServeResult name octets result) × IsServiceEnd world result
+    × AfterEnd (as_done result) before after status

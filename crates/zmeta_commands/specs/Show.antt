@@ -40,8 +40,8 @@ OneShowing = (xs s t : List ℕ) (f g : Result (Unit {0}) Fault) → ShownText x
 
 -- the octets of the digits were shown
 abbrev pub ShowDigitsResult : List ℕ → Device → Device → Result (Unit {0}) Fault → Type 0
-ShowDigitsResult digits old new answer =
-    (xs text : List ℕ) × (octets_of digits ≡ Ok xs) × ShownText xs text answer × HasGained old new text
+ShowDigitsResult digits old new result =
+    (xs text : List ℕ) × (octets_of digits ≡ Ok xs) × ShownText xs text result × HasGained old new text
 
 -- the stream failed after a front of the text of the digits' octets was written
 abbrev pub HasShownFront : List ℕ → Device → Device → Type 0
@@ -54,11 +54,11 @@ ShowResult digits old new (Err Hex) = ((xs : List ℕ) → octets_of digits ≡ 
 ShowResult digits old new (Err (Read path)) = IsUnchanged old new
 ShowResult digits old new (Err (Write path)) = HasShownFront digits old new
 ShowResult digits old new (Err Memory) = IsUnchanged old new
-ShowResult digits old new answer = ShowDigitsResult digits old new answer
+ShowResult digits old new result = ShowDigitsResult digits old new result
 
 -- the streams and the status after `show`
 abbrev pub AfterShow : Streams → Streams → Status → Type 0
-AfterShow before after status = (answer : Result (Unit {0}) Fault)
-    × IfSome before.input.known (λ digits. ShowResult digits before.output after.output answer)
-    × (after.input.path ≡ before.input.path) × IsOfStream after.input after.output answer
-    × AfterEnd (as_done answer) before.errors after.errors status
+AfterShow before after status = (result : Result (Unit {0}) Fault)
+    × IfSome before.input.known (λ digits. ShowResult digits before.output after.output result)
+    × (after.input.path ≡ before.input.path) × IsOfStream after.input after.output result
+    × AfterEnd (as_done result) before.errors after.errors status

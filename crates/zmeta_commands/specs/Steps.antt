@@ -27,14 +27,14 @@ ShowNextResult s t old new (Err f) = ShownText s.octets [] (Err f) × (new ≡ o
 -- the octets were shown; nothing is known if no memory was found
 abbrev pub ShowOctetsResult : List ℕ → List ℕ → List ℕ → Result (Unit {0}) Fault → Type 0
 ShowOctetsResult xs old new (Err Memory) = Unit {0}
-ShowOctetsResult xs old new answer = (text : List ℕ) × ShownText xs text answer × (new ≡ old ++ text)
+ShowOctetsResult xs old new result = (text : List ℕ) × ShownText xs text result × (new ≡ old ++ text)
 
 -- the lines were written and the result is kept; or a front of them if the stream failed
 abbrev pub PutLinesResult : List ℕ → Result (Unit {0}) Fault → Device → Device → Result (Unit {0}) Fault → Type 0
-PutLinesResult lines answer old new result =
-    ((result ≡ answer) × HasGained old new lines) ⊎ MatchResult result (λ _. ⊥) (PutFailure old new lines)
+PutLinesResult lines given old new result =
+    ((result ≡ given) × HasGained old new lines) ⊎ MatchResult result (λ _. ⊥) (PutFailure old new lines)
 
 -- the lines were written before the result, and no line if no memory was found
 abbrev pub PrintLinesResult : List ℕ → Result (Unit {0}) Fault → Device → Device → Result (Unit {0}) Fault → Type 0
 PrintLinesResult lines (Err Memory) old new result = (result ≡ Err Memory) × IsUnchanged old new
-PrintLinesResult lines answer old new result = PutLinesResult lines answer old new result
+PrintLinesResult lines given old new result = PutLinesResult lines given old new result

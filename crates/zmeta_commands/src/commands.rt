@@ -73,11 +73,11 @@ fn run_arguments<'a, S: Folder + Net + Clock, R: Read, W: Write, E: Write, P: Wr
         (streams R.remaining W.contents E.contents input.new output.new errors.new) result }
 {
     let asked = parse(alloc, arguments);
-    answer(alloc, system, asked, input, output, errors, screen)
+    run_parsed(alloc, system, asked, input, output, errors, screen)
 }
 
 /// Runs the command that was asked for, or reports why there is none.
-fn answer<'a, S: Folder + Net + Clock, R: Read, W: Write, E: Write, P: Write + Drop>(
+fn run_parsed<'a, S: Folder + Net + Clock, R: Read, W: Write, E: Write, P: Write + Drop>(
     alloc: Global,
     system: &S,
     asked: Result<Arguments<'_>, Error>,

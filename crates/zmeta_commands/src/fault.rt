@@ -283,24 +283,21 @@ impl Fault<'_> {
 
 /// Ends a command: reports the fault that stopped it, and returns its status. That is `Refused` if a write of
 /// `errors` failed, unless it is `Memory`.
-pub(crate) fn end<E: Write>(answer: Result<Status, Fault<'_>>, errors: &mut Output<'_, E>) -> Status
-    ensures { AfterEnd answer.entry (output_device E.contents errors.old) (output_device E.contents errors.new) result }
+pub(crate) fn end<E: Write>(done: Result<Status, Fault<'_>>, errors: &mut Output<'_, E>) -> Status
+    ensures { AfterEnd done.entry (output_device E.contents errors.old) (output_device E.contents errors.new) result }
 {
-    match answer {
+    match done {
         Ok(status) => status.after_errors(errors.has_failed),
         Err(fault) => fault.report(errors),
     }
 }
 
 /// Ends a command that has no other status than `Done` unless a fault stops it.
-pub(crate) fn end_done<E: Write>(
-    answer: Result<(), Fault<'_>>,
-    errors: &mut Output<'_, E>,
-) -> Status
-    ensures { AfterEnd (as_done answer.entry) (output_device E.contents errors.old)
+pub(crate) fn end_done<E: Write>(done: Result<(), Fault<'_>>, errors: &mut Output<'_, E>) -> Status
+    ensures { AfterEnd (as_done done.entry) (output_device E.contents errors.old)
         (output_device E.contents errors.new) result }
 {
-    match answer {
+    match done {
         Ok(()) => end(Ok(Status::Done), errors),
         Err(fault) => end(Err(fault), errors),
     }

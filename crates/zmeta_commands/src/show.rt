@@ -64,16 +64,16 @@ fn show_text<'a, R: Read, W: Write>(
 fn print_lines<'a, W: Write>(
     output: &mut Output<'a, W>,
     lines: &[u8],
-    answer: Result<(), Fault<'a>>,
+    given: Result<(), Fault<'a>>,
 ) -> Result<(), Fault<'a>>
-    ensures { PrintLinesResult lines.now answer.entry (output_device W.contents output.old)
+    ensures { PrintLinesResult lines.now given.entry (output_device W.contents output.old)
         (output_device W.contents output.new) result }
 {
-    if matches!(answer, Err(Fault::Memory)) {
-        return answer;
+    if matches!(given, Err(Fault::Memory)) {
+        return given;
     }
     match output.put(lines) {
-        Ok(()) => answer,
+        Ok(()) => given,
         Err(fault) => Err(fault),
     }
 }

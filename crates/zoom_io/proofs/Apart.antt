@@ -5,7 +5,7 @@ use Rattle.zorigin.specs.Standings.{Call}
 use Rattle.zorigin.specs.declared.settings.Settings.{Settings}
 use Rattle.zoom_questions.specs.declared.question.Question.{Question}
 use Rattle.zoom_questions.specs.declared.question.MetaSettings.{MetaSettings}
-use Rattle.zoom_pool.specs.declared.answer.Step.{Step}
+use Rattle.zoom_pool.specs.declared.step.Step.{Step}
 use Rattle.zoom_pool.specs.Transcripts.{Event, Called, Fed, Took, InputEnded, HandedOut, Transcript, IsTranscript, given, is_lost}
 use Rattle.zoom_pool.specs.Connections.{ConnectionAfter}
 use Rattle.zoom_pool.specs.Links.{Links}

@@ -10,10 +10,10 @@ use Rattle.zoom_questions.specs.declared.question.Question.{Question}
 use Rattle.zoom_questions.specs.declared.question.MetaSettings.{MetaSettings}
 use Rattle.zoom_pool.specs.declared.state.State.TheVariants as states
 use Rattle.zoom_pool.specs.declared.state.Reason.TheVariants as reasons
-use Rattle.zoom_pool.specs.declared.answer.Step.{Step}
-use Rattle.zoom_pool.specs.declared.answer.Step.TheVariants as steps
-use Rattle.zoom_pool.specs.declared.answer.TakeError.{TakeError}
-use Rattle.zoom_pool.specs.declared.answer.TakeError.TheVariants as errors
+use Rattle.zoom_pool.specs.declared.step.Step.{Step}
+use Rattle.zoom_pool.specs.declared.step.Step.TheVariants as steps
+use Rattle.zoom_pool.specs.declared.step.TakeError.{TakeError}
+use Rattle.zoom_pool.specs.declared.step.TakeError.TheVariants as errors
 use Rattle.zoom_pool.specs.States.{is_stopped, is_closing}
 use Rattle.zoom_pool.specs.Inputs.{Input, AlreadyStopped, Message, Foreign, Fault, Rest, Nothing}
 use Rattle.zoom_pool.specs.Transcripts.{Transcript, IsTranscript, Took, InputEnded, NextInput, take_result, take_result_of_verdict, after_take, after_reply, after_stop, end_by, truncated, state_at, past_of, is_message, IsDone}

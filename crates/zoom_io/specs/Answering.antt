@@ -252,8 +252,8 @@ IsExchangeEnd (Err errors.Memory) new source left sink held = HasNoFailure sourc
 
 -- What answering with at most `reads` reads does, after every history of the serving end.
 pub record AfterAnswer
-    (reads : ℕ) (answer : Result (Unit {0}) AnswerError) (old new : HostState) (source left sink held : DeviceState)
+    (reads : ℕ) (result : Result (Unit {0}) AnswerError) (old new : HostState) (source left sink held : DeviceState)
     : Type 0 where
   pub on : (holdings : Holdings) (events : List HostEvent) → HostAfter holdings events old
-      → ExchangeResult holdings events reads answer new source left sink held
-  pub end : IsExchangeEnd answer new source left sink held
+      → ExchangeResult holdings events reads result new source left sink held
+  pub end : IsExchangeEnd result new source left sink held

@@ -22,14 +22,14 @@ IsCounted old new (Ok _) = new ≡ old
 IsCounted old new (Err _) = new ≡ next_count old
 
 -- A read consumes the octets it gives, and gives none only at the end or without room; a failed read is counted.
-pub record AfterRead {E : Type 0} (old new : DeviceState) (answer : Result ℕ E) (piece : List ℕ) : Type 0 where
-  pub octets : ReadConsumes old.octets new.octets answer piece
-  pub count : IsCounted old.failures new.failures answer
+pub record AfterRead {E : Type 0} (old new : DeviceState) (result : Result ℕ E) (piece : List ℕ) : Type 0 where
+  pub octets : ReadConsumes old.octets new.octets result piece
+  pub count : IsCounted old.failures new.failures result
 
 -- A write appends the octets it takes; a failed write is counted.
-pub record AfterWrite {E : Type 0} (old new : DeviceState) (answer : Result ℕ E) (piece : List ℕ) : Type 0 where
-  pub octets : WriteAppends old.octets new.octets answer piece
-  pub count : IsCounted old.failures new.failures answer
+pub record AfterWrite {E : Type 0} (old new : DeviceState) (result : Result ℕ E) (piece : List ℕ) : Type 0 where
+  pub octets : WriteAppends old.octets new.octets result piece
+  pub count : IsCounted old.failures new.failures result
 
 -- The count rose by n, or is the largest count.
 abbrev pub HasRisen : ℕ → ℕ → ℕ → Type 0

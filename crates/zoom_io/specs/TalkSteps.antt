@@ -2,8 +2,8 @@
 use Rattle.std.specs.Prelude.{ℕ, List, Result, Ok, Err}
 use Rattle.zoom_questions.specs.declared.question.Question.{Question}
 use Rattle.zoom_questions.specs.declared.question.MetaSettings.{MetaSettings}
-use Rattle.zoom_pool.specs.declared.answer.Step.{Step}
-use Rattle.zoom_pool.specs.declared.answer.Step.TheVariants as steps
+use Rattle.zoom_pool.specs.declared.step.Step.{Step}
+use Rattle.zoom_pool.specs.declared.step.Step.TheVariants as steps
 use Rattle.zoom_pool.specs.History.{History}
 use Rattle.zoom_pool.specs.Metas.{MetaLinks}
 use Rattle.zoom_io.specs.declared.talk_steps.Receipt.{Receipt}

@@ -8,8 +8,8 @@ use Rattle.zoom_pool.specs.declared.state.State.{State}
 use Rattle.zoom_pool.specs.declared.state.State.TheVariants as states
 use Rattle.zoom_pool.specs.declared.state.Reason.{Reason}
 use Rattle.zoom_pool.specs.declared.state.Reason.TheVariants as reasons
-use Rattle.zoom_pool.specs.declared.answer.Step.{Step}
-use Rattle.zoom_pool.specs.declared.answer.Step.TheVariants as steps
+use Rattle.zoom_pool.specs.declared.step.Step.{Step}
+use Rattle.zoom_pool.specs.declared.step.Step.TheVariants as steps
 use Rattle.zoom_pool.specs.States.{is_stopped}
 use Rattle.zoom_pool.specs.Inputs.{Input}
 use Rattle.zoom_pool.specs.Transcripts.{Transcript, IsTranscript, Fed, Took, InputEnded, HandedOut, Stopped, NextInput, take_result, state_at, past_of, given, is_lost, is_message, sent}
@@ -289,10 +289,10 @@ IsStoppedFor c (Err e) new = stop_at new.pool c ≡ Some (states.Failed (reason_
 
 -- What a talk with at most `turns` reads does, after every history before it.
 pub record AfterTalk
-    (c turns : ℕ) (answer : Result (Unit {0}) TalkError) (old new : MetaLinks) (source left sink held : DeviceState)
+    (c turns : ℕ) (result : Result (Unit {0}) TalkError) (old new : MetaLinks) (source left sink held : DeviceState)
     : Type 0 where
   pub on : (questions : List Question) (s : MetaSettings) (partial : List ℕ) (h : History)
       → MetaAfterUpTo questions s partial h old
-      → TalkResult questions s partial c h turns answer new source left sink held
-  pub blamed : IsErrorOf answer source left sink held
-  pub stopped : IsStoppedFor c answer new
+      → TalkResult questions s partial c h turns result new source left sink held
+  pub blamed : IsErrorOf result source left sink held
+  pub stopped : IsStoppedFor c result new

@@ -62,20 +62,20 @@ abbrev pub ConverseResult
     → DeviceState → DeviceState → DeviceState → DeviceState → Type 0
 ConverseResult questions s partial c h turns (Err errors.Memory) new source left sink held =
     HaltedTalk questions s partial c h new
-ConverseResult questions s partial c h turns answer new source left sink held =
-    TalkResult questions s partial c h turns answer new source left sink held
+ConverseResult questions s partial c h turns result new source left sink held =
+    TalkResult questions s partial c h turns result new source left sink held
 
 -- Each refusal, except `Memory`, leaves the connection failed for its reason.
 abbrev pub IsStoppedUnlessHalted : ℕ → Result (Unit {0}) TalkError → MetaLinks → Type 0
 IsStoppedUnlessHalted c (Err errors.Memory) new = Unit {0}
-IsStoppedUnlessHalted c answer new = IsStoppedFor c answer new
+IsStoppedUnlessHalted c result new = IsStoppedFor c result new
 
 -- What a conversation with at most `turns` reads does, after every history before it.
 pub record AfterConverse
-    (c turns : ℕ) (answer : Result (Unit {0}) TalkError) (old new : MetaLinks) (source left sink held : DeviceState)
+    (c turns : ℕ) (result : Result (Unit {0}) TalkError) (old new : MetaLinks) (source left sink held : DeviceState)
     : Type 0 where
   pub on : (questions : List Question) (s : MetaSettings) (partial : List ℕ) (h : History)
       → MetaAfterUpTo questions s partial h old
-      → ConverseResult questions s partial c h turns answer new source left sink held
-  pub blamed : IsErrorOf answer source left sink held
-  pub stopped : IsStoppedUnlessHalted c answer new
+      → ConverseResult questions s partial c h turns result new source left sink held
+  pub blamed : IsErrorOf result source left sink held
+  pub stopped : IsStoppedUnlessHalted c result new

@@ -144,7 +144,7 @@ err_call law p call reason none e = by (refusal (standing (past_of p)) call) ref
         → Err reason ≡ dropped (call_result (standing (past_of p)) call) → refusal (standing (past_of p)) call ≡ Some reason
     by None is f =
         let g : Err reason ≡ dropped (Ok (sent_of (law (standing (past_of p)) call is).request)) =
-        f ∙ ap dropped (law (standing (past_of p)) call is).answer in
+        f ∙ ap dropped (law (standing (past_of p)) call is).returned in
         absurd (cc)
     by (Some other) is f =
         let g : Err reason ≡ dropped (call_result_by (Some other) (request_of (standing (past_of p)) call)) =

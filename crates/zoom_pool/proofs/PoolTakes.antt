@@ -22,8 +22,8 @@ use Rattle.zorigin.specs.Facts.{facts_of}
 use Rattle.zorigin.specs.Sending.{encoding_of}
 use Rattle.zorigin.specs.Log.{Got, Past, standing, state_of, after_verdict}
 use Rattle.zoom_pool.specs.Links.{Link, Links}
-use Rattle.zoom_pool.specs.declared.answer.Outcome.{Outcome}
-use Rattle.zoom_pool.specs.declared.answer.TakeError.{TakeError}
+use Rattle.zoom_pool.specs.declared.step.Outcome.{Outcome}
+use Rattle.zoom_pool.specs.declared.step.TakeError.{TakeError}
 use Rattle.zoom_pool.specs.Inputs.{Input, AlreadyStopped, Message, Foreign, Fault, Rest, Nothing}
 use Rattle.zoom_pool.specs.declared.state.State.{State}
 use Rattle.zoom_pool.specs.Transcripts.{Event, Took, Transcript, IsTranscript, NextInput, state_at, after_reply, end_by, after_stop, truncated}

@@ -25,10 +25,10 @@ use Rattle.zoom_pool.specs.Links.{Link}
 use Rattle.zoom_pool.specs.declared.state.State.TheVariants as states
 use Rattle.zoom_pool.specs.declared.state.Reason.{Reason}
 use Rattle.zoom_pool.specs.declared.state.Reason.TheVariants as reasons
-use Rattle.zoom_pool.specs.declared.answer.Outcome.{Outcome}
-use Rattle.zoom_pool.specs.declared.answer.Outcome.TheVariants as outcome
-use Rattle.zoom_pool.specs.declared.answer.TakeError.{TakeError}
-use Rattle.zoom_pool.specs.declared.answer.TakeError.TheVariants as errors
+use Rattle.zoom_pool.specs.declared.step.Outcome.{Outcome}
+use Rattle.zoom_pool.specs.declared.step.Outcome.TheVariants as outcome
+use Rattle.zoom_pool.specs.declared.step.TakeError.{TakeError}
+use Rattle.zoom_pool.specs.declared.step.TakeError.TheVariants as errors
 use Rattle.zoom_pool.specs.States.{is_stopped}
 use Rattle.zoom_pool.specs.Inputs.{Input, AlreadyStopped, Message, Foreign, Fault, Rest, Nothing, IsForeign, IsReadAs, IsBehind}
 use Rattle.zber.specs.declared.framer.TheConstants.{MESSAGE_LIMIT}
@@ -47,7 +47,7 @@ pub processed_input : (target : ℕ) (p : Transcript) (v : Apdu) (peeked : Resul
     → IsUnion (Contains old) (Contains (facts_of_verdict target peeked)) (Contains new)
     → InputStep target p (Message v) answer o old new
 processed_input target p v peeked answer o old new value taken t after u = record {
-  answers = t;
+  returned = t;
   stands = after;
   union = subst (λ r. IsUnion (Contains old) (Contains (facts_of_verdict target r)) (Contains new)) (value taken) u;
 }
@@ -79,7 +79,7 @@ pub process_foreign : (target : ℕ) (p : Transcript) (e : Element) (error : Apd
 process_foreign target p e error o ks other d after = record {
   input = Foreign error;
   read = foreign e error other d;
-  input_step = record { answers = refl; stands = after; union = union_none ks };
+  input_step = record { returned = refl; stands = after; union = union_none ks };
 }
 
 -- ---- the connection
@@ -174,7 +174,7 @@ matched laws target p e (Message v) answer c old new s f none r h ended stop =
     let q : Transcript = record p { taken = suc p.taken; log = Got v ∷ p.log } in
     process_matches q (verdict (standing (past_of p)) v) c h.stands
     (subst (λ z. FramerAfter q z c.framer) (sym none) (taken_more laws p q e c.framer s refl refl f)) ended (stop
-    ∙ ap (stop_after p.stop) h.answers)
+    ∙ ap (stop_after p.stop) h.returned)
 matched laws target p e (Foreign error) answer c old new s f none r h ended stop =
     let q : Transcript = record p { taken = suc p.taken } in
     record {
@@ -182,7 +182,7 @@ matched laws target p e (Foreign error) answer c old new s f none r h ended stop
       frames = frames_stopped q (reasons.Decode error) c.held c.framer
           (subst (λ z. FramerAfter q z c.framer) (sym none) (taken_more laws p q e c.framer s refl refl f));
       ended = ended;
-      stop = stop ∙ ap (stop_after p.stop) h.answers;
+      stop = stop ∙ ap (stop_after p.stop) h.returned;
     }
 matched laws target p e AlreadyStopped answer c old new s f none r h ended stop = absurd r
 matched laws target p e (Fault kind at) answer c old new s f none r h ended stop = absurd r
@@ -196,7 +196,7 @@ pub took : (laws : StreamLaws) (target : ℕ) (p : Transcript) (e : Element) (an
 took laws target p e answer c old new s f none h ended stop = record {
   input = h.input;
   is_next = input_message p e c.framer h.input s f h.read;
-  answers = h.input_step.answers;
+  returned = h.input_step.returned;
   matches = matched laws target p e h.input answer c old new s f none h.read h.input_step ended stop;
   union = h.input_step.union;
 }
@@ -220,7 +220,7 @@ faulty target p kind at c ks s o ended f none shows stop =
     record {
       input = Fault kind at;
       is_next = (s, f.rest, f.behind, subst (λ z. HasFault MESSAGE_LIMIT z kind at) (sym same) shows);
-      answers = refl;
+      returned = refl;
       matches = record { origin = o; frames = f; ended = ended; stop = stop };
       union = union_none ks;
     }
@@ -230,7 +230,7 @@ pub lacked : (target : ℕ) (p : Transcript) (answer : Result Outcome TakeError)
 lacked target p answer c ks l = record {
   input = l.input;
   is_next = l.is_next;
-  answers = l.answers;
+  returned = l.returned;
   matches = l.matches;
   union = subst (λ z. IsUnion (Contains ks) (Contains z) (Contains ks)) (sym (l.silent target)) (union_none ks);
 }
@@ -240,7 +240,7 @@ idle_at : (p : Transcript) (c : Link) (rest : List ℕ) → AreConsistent p c �
 idle_at p c [] m s b u e = record {
   input = Nothing;
   is_next = (s, [], b, refl);
-  answers = rw e refl;
+  returned = rw e refl;
   matches =
       subst (λ z. AreConsistent (cond z (end_by p) p) c) (sym e) m;
   silent = λ t. refl;
@@ -249,7 +249,7 @@ idle_at p c (x ∷ xs) m s b u e = record {
   input = Rest (length (x ∷ xs));
   is_next =
       (s, x ∷ xs, b, ((let n : 0 < length (x ∷ xs) = omega arith in n), refl, u));
-  answers = rw e refl;
+  returned = rw e refl;
   matches =
       subst (λ z. AreConsistent (cond z (after_stop p (truncated (length (x ∷ xs)))) p) c) (sym e) m;
   silent = λ t. refl;
@@ -290,7 +290,7 @@ truncated_so p c n m s b some is u e =
     record {
       input = Rest n;
       is_next = (s, c.framer.octets, b, (some, is, u));
-      answers = rw e refl;
+      returned = rw e refl;
       matches = subst (λ z. AreConsistent (cond z (after_stop p (truncated n)) p)
           (record c { stop = Some (states.Failed (truncated n)) })) (sym e) matches;
       silent = λ t. refl;

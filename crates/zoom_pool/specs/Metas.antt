@@ -7,9 +7,9 @@ use Rattle.zoom_questions.specs.declared.question.Question.{Question}
 use Rattle.zoom_questions.specs.declared.question.MetaSettings.{MetaSettings}
 use Rattle.zoom_pool.specs.declared.meta.Advance.{Advance}
 use Rattle.zoom_pool.specs.declared.meta.Advance.TheVariants as stages
-use Rattle.zoom_pool.specs.declared.answer.Outcome.{Outcome}
-use Rattle.zoom_pool.specs.declared.answer.Outcome.TheVariants as outcome
-use Rattle.zoom_pool.specs.declared.answer.TakeError.{TakeError}
+use Rattle.zoom_pool.specs.declared.step.Outcome.{Outcome}
+use Rattle.zoom_pool.specs.declared.step.Outcome.TheVariants as outcome
+use Rattle.zoom_pool.specs.declared.step.TakeError.{TakeError}
 use Rattle.zoom_pool.specs.States.{is_stopped}
 use Rattle.zoom_pool.specs.Inputs.{Input}
 use Rattle.zoom_pool.specs.Transcripts.{Transcript, IsTranscript, Event, Called, Took, after_take, outcome_of, past_of, state_at}
@@ -80,8 +80,8 @@ MetaIncompleteTake c old new =
 
 -- the driver agrees with the log after a Take with this outcome
 abbrev pub DriverTakeStep : Result Outcome TakeError → DriverState → DriverState → Type 0
-DriverTakeStep answer old new =
-    (e : Errand) (p : Transcript) (input : Input) → IsDriver e p.settings p.log old → answer ≡ outcome_of p input
+DriverTakeStep result old new =
+    (e : Errand) (p : Transcript) (input : Input) → IsDriver e p.settings p.log old → result ≡ outcome_of p input
     → IsDriver e (after_take p input).settings (after_take p input).log new
 
 -- the driver notes what the origin took; if it took nothing, the driver is unchanged
@@ -133,9 +133,9 @@ DriveResultAt questions s partial c h (Err e) new = (n : ℕ) × Progress questi
 
 -- the same for each history that can have left `old`
 abbrev pub DriveResult : {E : Type 0} → ℕ → Result ℕ E → MetaLinks → MetaLinks → Type 0
-DriveResult c answer old new =
+DriveResult c result old new =
     (questions : List Question) (s : MetaSettings) (partial : List ℕ) (h : History)
-    → MetaAfterUpTo questions s partial h old → DriveResultAt questions s partial c h answer new
+    → MetaAfterUpTo questions s partial h old → DriveResultAt questions s partial c h result new
 
 -- ---- one call
 
@@ -162,9 +162,9 @@ AdvanceResultAt questions s partial c h (Err e) old new = Progress questions s p
 
 -- the same for each history that can have left `old`
 abbrev pub AdvanceResult : {E : Type 0} → ℕ → Result Advance E → MetaLinks → MetaLinks → Type 0
-AdvanceResult c answer old new =
+AdvanceResult c result old new =
     (questions : List Question) (s : MetaSettings) (partial : List ℕ) (h : History)
-    → MetaAfterUpTo questions s partial h old → AdvanceResultAt questions s partial c h answer old new
+    → MetaAfterUpTo questions s partial h old → AdvanceResultAt questions s partial c h result old new
 
 -- the driver of the connection gave this call, and nothing stopped the connection
 abbrev pub IsGivenCall : List Question → MetaSettings → ℕ → History → Call → MetaLinks → Type 0
@@ -176,24 +176,24 @@ IsGivenCall questions s c h call meta =
 
 -- what making the call that the driver gave did
 abbrev pub IssueResult : {E : Type 0} → ℕ → Call → Result Advance E → MetaLinks → MetaLinks → Type 0
-IssueResult c call answer old new =
+IssueResult c call result old new =
     (questions : List Question) (s : MetaSettings) (partial : List ℕ) (h : History)
     → MetaAfterUpTo questions s partial h old → IsGivenCall questions s c h call old
-    → AdvanceResultAt questions s partial c h answer old new
+    → AdvanceResultAt questions s partial c h result old new
 
 -- ---- results about one connection
 
 -- the result is this value of the connection's transcript, for each history that can have left these
 abbrev pub IsTranscriptValue : ℕ → MetaLinks → (Transcript → Bool) → Bool → Type 0
-IsTranscriptValue c meta value answer =
+IsTranscriptValue c meta value result =
     (questions : List Question) (s : MetaSettings) (h : History) (p : Transcript)
-    → MetaAfter questions s h meta → IsTranscript (settings_of s) (events_on c h) p → answer ≡ value p
+    → MetaAfter questions s h meta → IsTranscript (settings_of s) (events_on c h) p → result ≡ value p
 
 -- the same, also after Takes that found no memory
 abbrev pub IsTranscriptValueUpTo : ℕ → MetaLinks → (Transcript → Bool) → Bool → Type 0
-IsTranscriptValueUpTo c meta value answer =
+IsTranscriptValueUpTo c meta value result =
     (questions : List Question) (s : MetaSettings) (partial : List ℕ) (h : History) (p : Transcript)
-    → MetaAfterUpTo questions s partial h meta → IsTranscript (settings_of s) (events_on c h) p → answer ≡ value p
+    → MetaAfterUpTo questions s partial h meta → IsTranscript (settings_of s) (events_on c h) p → result ≡ value p
 
 -- the search was skipped
 abbrev pub is_skipped : Transcript → Bool
@@ -205,17 +205,17 @@ is_complete p = complete_in (past_of p)
 
 -- the result says whether each connection is Closed or Failed
 abbrev pub IsFinished : MetaLinks → Bool → Type 0
-IsFinished meta answer =
+IsFinished meta result =
     (questions : List Question) (s : MetaSettings) (h : History) → MetaAfter questions s h meta
-    → (answer ≡ true) ↔ ((c : ℕ) (p : Transcript) → c < length questions
+    → (result ≡ true) ↔ ((c : ℕ) (p : Transcript) → c < length questions
     → IsTranscript (settings_of s) (events_on c h) p
     → is_stopped (state_at p) ≡ true)
 
 -- the same, also after Takes that found no memory
 abbrev pub IsFinishedUpTo : MetaLinks → Bool → Type 0
-IsFinishedUpTo meta answer =
+IsFinishedUpTo meta result =
     (questions : List Question) (s : MetaSettings) (partial : List ℕ) (h : History)
     → MetaAfterUpTo questions s partial h meta
-    → (answer ≡ true) ↔ ((c : ℕ) (p : Transcript) → c < length questions
+    → (result ≡ true) ↔ ((c : ℕ) (p : Transcript) → c < length questions
     → IsTranscript (settings_of s) (events_on c h) p
     → is_stopped (state_at p) ≡ true)

@@ -5,9 +5,9 @@ use Rattle.zorigin.specs.declared.refusal.CallRefused.{CallRefused}
 use Rattle.zorigin.specs.Standings.{Call}
 use Rattle.zorigin.specs.Log.{IsMadeCall}
 use Rattle.zoom_pool.specs.declared.state.State.{State}
-use Rattle.zoom_pool.specs.declared.answer.Step.{Step}
-use Rattle.zoom_pool.specs.declared.answer.Outcome.{Outcome}
-use Rattle.zoom_pool.specs.declared.answer.TakeError.{TakeError}
+use Rattle.zoom_pool.specs.declared.step.Step.{Step}
+use Rattle.zoom_pool.specs.declared.step.Outcome.{Outcome}
+use Rattle.zoom_pool.specs.declared.step.TakeError.{TakeError}
 use Rattle.zoom_pool.specs.States.{is_stopped}
 use Rattle.zoom_pool.specs.Inputs.{Input}
 use Rattle.zoom_pool.specs.Transcripts.{Event, Took, NextInput, connection_call_result, request_octets, take_result, outcome_of, state_at, past_of, given, is_lost, sent, IsDone}
@@ -28,9 +28,9 @@ IsStateAt c pool state =
 
 -- the result of a call, unless no memory is found
 abbrev pub IsCallResult : ℕ → Call → Links → Result (Unit {0}) CallRefused → Type 0
-IsCallResult c call pool answer =
+IsCallResult c call pool result =
     (settings : Settings) (partial : List ℕ) (h : History) (a : AfterUpTo settings partial h pool)
-    → IsMadeCall answer → answer ≡ connection_call_result (a.transcript c) call
+    → IsMadeCall result → result ≡ connection_call_result (a.transcript c) call
 
 -- after a call that the origin admitted, its request waits behind the octets that waited before
 abbrev pub IsRequestPut : ℕ → Call → Links → Links → Type 0
@@ -40,15 +40,15 @@ IsRequestPut c call old new =
 
 -- the result of a Take by its input, unless no memory is found
 abbrev pub IsTakeResult : ℕ → Links → Result Step TakeError → Type 0
-IsTakeResult c pool answer =
-    (settings : Settings) (partial : List ℕ) (h : History) (a : AfterUpTo settings partial h pool) → IsDone answer
-    → (input : Input) × NextInput (a.transcript c) input × (answer ≡ take_result (a.transcript c) input)
+IsTakeResult c pool result =
+    (settings : Settings) (partial : List ℕ) (h : History) (a : AfterUpTo settings partial h pool) → IsDone result
+    → (input : Input) × NextInput (a.transcript c) input × (result ≡ take_result (a.transcript c) input)
 
 -- the same, with what the origin took
 abbrev pub IsTakeOutcome : ℕ → Links → Result Outcome TakeError → Type 0
-IsTakeOutcome c pool answer =
-    (settings : Settings) (partial : List ℕ) (h : History) (a : AfterUpTo settings partial h pool) → IsDone answer
-    → (input : Input) × NextInput (a.transcript c) input × (answer ≡ outcome_of (a.transcript c) input)
+IsTakeOutcome c pool result =
+    (settings : Settings) (partial : List ℕ) (h : History) (a : AfterUpTo settings partial h pool) → IsDone result
+    → (input : Input) × NextInput (a.transcript c) input × (result ≡ outcome_of (a.transcript c) input)
 
 -- a Take of `c` is added to each history; it completes an earlier Take of `c` that found no memory
 abbrev pub TakeStep : ℕ → Links → Links → Type 0
@@ -70,6 +70,6 @@ HasHandedOutAll c pool =
 
 -- the result says whether each connection is Closed or Failed
 abbrev pub IsPoolFinished : Links → Bool → Type 0
-IsPoolFinished pool answer =
+IsPoolFinished pool result =
     (settings : Settings) (partial : List ℕ) (h : History) (a : AfterUpTo settings partial h pool)
-    → (answer ≡ true) ↔ ((c : ℕ) → c < length pool.connections → is_stopped (state_at (a.transcript c)) ≡ true)
+    → (result ≡ true) ↔ ((c : ℕ) → c < length pool.connections → is_stopped (state_at (a.transcript c)) ≡ true)

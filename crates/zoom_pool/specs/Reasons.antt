@@ -6,8 +6,8 @@ use Rattle.zapdu.specs.Apdus.{apdu_error_name as apdu_word}
 use Rattle.zorigin.specs.Refusal.{reply_refusal_name}
 use Rattle.zoom_pool.specs.declared.state.Reason.{Reason}
 use Rattle.zoom_pool.specs.declared.state.Reason.TheVariants as reasons
-use Rattle.zoom_pool.specs.declared.answer.TakeError.{TakeError}
-use Rattle.zoom_pool.specs.declared.answer.TakeError.TheVariants as errors
+use Rattle.zoom_pool.specs.declared.step.TakeError.{TakeError}
+use Rattle.zoom_pool.specs.declared.step.TakeError.TheVariants as errors
 
 -- the name of the reason for which a connection failed
 abbrev pub reason_name : Reason → List ℕ

@@ -15,9 +15,9 @@ use Rattle.zorigin.specs.Log.{Log, Got, IsMadeCall, After as OriginAfter}
 use Rattle.zoom_pool.specs.declared.state.Reason.{Reason}
 use Rattle.zoom_pool.specs.declared.state.State.{State}
 use Rattle.zoom_pool.specs.declared.state.State.TheVariants as states
-use Rattle.zoom_pool.specs.declared.answer.Outcome.{Outcome}
-use Rattle.zoom_pool.specs.declared.answer.TakeError.{TakeError}
-use Rattle.zoom_pool.specs.declared.answer.TakeError.TheVariants as errors
+use Rattle.zoom_pool.specs.declared.step.Outcome.{Outcome}
+use Rattle.zoom_pool.specs.declared.step.TakeError.{TakeError}
+use Rattle.zoom_pool.specs.declared.step.TakeError.TheVariants as errors
 use Rattle.zoom_pool.specs.Links.{Link}
 use Rattle.zoom_pool.specs.Inputs.{Input, Message, IsReadAs}
 use Rattle.zber.specs.declared.framer.TheConstants.{MESSAGE_LIMIT}
@@ -31,21 +31,21 @@ log_after p _ = p.log
 
 -- The input was processed: the outcome, the origin after it, and the facts known.
 pub record InputStep
-    (target : ℕ) (p : Transcript) (input : Input) (answer : Result Outcome TakeError) (origin : Standing)
+    (target : ℕ) (p : Transcript) (input : Input) (result : Result Outcome TakeError) (origin : Standing)
     (old new : List Fact)
     : Type 0 where
-  pub answers : answer ≡ outcome_of p input
+  pub returned : result ≡ outcome_of p input
   pub stands : OriginAfter p.settings (log_after p input) origin
   pub union : IsUnion (Contains old) (Contains (news_at target p input)) (Contains new)
 
 -- The element was read as an input, which was processed.
 pub record MessageStep
-    (target : ℕ) (p : Transcript) (e : Element) (answer : Result Outcome TakeError) (origin : Standing)
+    (target : ℕ) (p : Transcript) (e : Element) (result : Result Outcome TakeError) (origin : Standing)
     (old new : List Fact)
     : Type 0 where
   pub input : Input
   pub read : IsReadAs e input
-  pub input_step : InputStep target p input answer origin old new
+  pub input_step : InputStep target p input result origin old new
 
 -- the message in this element adds this fact
 abbrev pub IsNewsIn : ℕ → Transcript → Element → Fact → Type 0
@@ -53,18 +53,18 @@ IsNewsIn target p e q = (input : Input) × IsReadAs e input × Contains (news_at
 
 -- A Take: its input, its outcome, the connection after it, and the facts known.
 pub record TakeResult
-    (target : ℕ) (p : Transcript) (answer : Result Outcome TakeError) (c : Link) (old new : List Fact) : Type 0 where
+    (target : ℕ) (p : Transcript) (result : Result Outcome TakeError) (c : Link) (old new : List Fact) : Type 0 where
   pub input : Input
   pub is_next : NextInput p input
-  pub answers : answer ≡ outcome_of p input
+  pub returned : result ≡ outcome_of p input
   pub matches : AreConsistent (after_take p input) c
   pub union : IsUnion (Contains old) (Contains (news_at target p input)) (Contains new)
 
 -- A Take that found no message: the same, and no fact is added.
-pub record EmptyTake (p : Transcript) (answer : Result Outcome TakeError) (c : Link) : Type 0 where
+pub record EmptyTake (p : Transcript) (result : Result Outcome TakeError) (c : Link) : Type 0 where
   pub input : Input
   pub is_next : NextInput p input
-  pub answers : answer ≡ outcome_of p input
+  pub returned : result ≡ outcome_of p input
   pub matches : AreConsistent (after_take p input) c
   pub silent : (target : ℕ) → news_at target p input ≡ []
 
@@ -103,30 +103,30 @@ held_after (Err error) e old = held_for (reason_of error) e old
 
 -- unless no memory is found, the message in the element is processed
 abbrev pub ProcessStep : ℕ → Element → Result Outcome TakeError → Standing → Standing → List Fact → List Fact → Type 0
-ProcessStep target e answer old new knew knows =
-    (p : Transcript) → OriginAfter p.settings p.log old → IsDone answer → MessageStep target p e answer new knew knows
+ProcessStep target e result old new knew knows =
+    (p : Transcript) → OriginAfter p.settings p.log old → IsDone result → MessageStep target p e result new knew knows
 
 -- if no memory is found, some facts of the message, and no others, were added
 abbrev pub PartialProcessStep : ℕ → Element → Result Outcome TakeError → Standing → List Fact → List Fact → Type 0
-PartialProcessStep target e answer old knew knows =
-    (p : Transcript) → OriginAfter p.settings p.log old → answer ≡ Err errors.Memory
+PartialProcessStep target e result old knew knows =
+    (p : Transcript) → OriginAfter p.settings p.log old → result ≡ Err errors.Memory
     → IsPartOfUnion (Contains knew) (IsNewsIn target p e) (Contains knows)
 
 -- unless no memory is found, this is what a Take does
 abbrev pub LinkTakeStep : ℕ → Result Outcome TakeError → Link → Link → List Fact → List Fact → Type 0
-LinkTakeStep target answer old new knew knows =
-    (p : Transcript) → AreConsistent p old → IsDone answer → TakeResult target p answer new knew knows
+LinkTakeStep target result old new knew knows =
+    (p : Transcript) → AreConsistent p old → IsDone result → TakeResult target p result new knew knows
 
 -- if no memory is found, some facts that the Take adds, and no others, were added
 abbrev pub PartialTake : ℕ → Result Outcome TakeError → Link → List Fact → List Fact → Type 0
-PartialTake target answer old knew knows =
-    (p : Transcript) → AreConsistent p old → answer ≡ Err errors.Memory
+PartialTake target result old knew knows =
+    (p : Transcript) → AreConsistent p old → result ≡ Err errors.Memory
     → IsPartOfUnion (Contains knew) (IsNews target p) (Contains knows)
 
 -- if no memory is found, each transcript that agreed with the connection still agrees; a message may be kept
 abbrev pub LinkIncompleteTake : Result Outcome TakeError → Link → Link → Type 0
-LinkIncompleteTake answer old new =
-    (p : Transcript) → AreConsistent p old → answer ≡ Err errors.Memory → AreConsistent p new
+LinkIncompleteTake result old new =
+    (p : Transcript) → AreConsistent p old → result ≡ Err errors.Memory → AreConsistent p new
 
 -- each list of events that can have left `old`, with this event added, can have left `new`
 abbrev pub LinkRecorded : Event → (Transcript → Transcript) → Link → Link → Type 0
@@ -136,5 +136,5 @@ LinkRecorded event change old new =
 
 -- the result of a call, unless no memory is found
 abbrev pub IsLinkCallResult : Call → Result (Unit {0}) CallRefused → Link → Type 0
-IsLinkCallResult call answer old =
-    (p : Transcript) → AreConsistent p old → IsMadeCall answer → answer ≡ connection_call_result p call
+IsLinkCallResult call result old =
+    (p : Transcript) → AreConsistent p old → IsMadeCall result → result ≡ connection_call_result p call

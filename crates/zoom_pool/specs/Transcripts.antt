@@ -21,12 +21,12 @@ use Rattle.zoom_pool.specs.declared.state.State.{State}
 use Rattle.zoom_pool.specs.declared.state.State.TheVariants as states
 use Rattle.zoom_pool.specs.declared.state.Reason.{Reason}
 use Rattle.zoom_pool.specs.declared.state.Reason.TheVariants as reasons
-use Rattle.zoom_pool.specs.declared.answer.Step.{Step}
-use Rattle.zoom_pool.specs.declared.answer.Step.TheVariants as steps
-use Rattle.zoom_pool.specs.declared.answer.Outcome.{Outcome}
-use Rattle.zoom_pool.specs.declared.answer.Outcome.TheVariants as outcome
-use Rattle.zoom_pool.specs.declared.answer.TakeError.{TakeError}
-use Rattle.zoom_pool.specs.declared.answer.TakeError.TheVariants as errors
+use Rattle.zoom_pool.specs.declared.step.Step.{Step}
+use Rattle.zoom_pool.specs.declared.step.Step.TheVariants as steps
+use Rattle.zoom_pool.specs.declared.step.Outcome.{Outcome}
+use Rattle.zoom_pool.specs.declared.step.Outcome.TheVariants as outcome
+use Rattle.zoom_pool.specs.declared.step.TakeError.{TakeError}
+use Rattle.zoom_pool.specs.declared.step.TakeError.TheVariants as errors
 use Rattle.zoom_pool.specs.States.{state_as, or_else, is_stopped, is_closing}
 use Rattle.zoom_pool.specs.Inputs.{Input, AlreadyStopped, Message, Foreign, Fault, Rest, Nothing, AreInput, IsBehind}
 
@@ -260,5 +260,5 @@ reason_of errors.Memory = None
 
 -- the result is not `Memory`
 abbrev pub IsDone : {A : Type 0} → Result A TakeError → Type 0
-IsDone (Ok answer) = Unit {0}
+IsDone (Ok x) = Unit {0}
 IsDone (Err error) = error ≢ errors.Memory

@@ -9,12 +9,12 @@ ghost use Rattle.zoom_pool.specs.PoolSteps.{IsStateAt, IsTakeResult, HasHandedOu
 ghost use Rattle.zoom_questions.specs.Askable.{AreFit, AreAskable};
 ghost use Rattle.zoom_pool.specs.Metas.{MetaAfter, MetaRecorded, MetaTakeStep, MetaIncompleteTake, DriveResult, AdvanceResult, IssueResult, NoteTakeStep, IsTranscriptValueUpTo, AreNewDrivers, is_skipped, is_complete, IsFinishedUpTo};
 
-use crate::answer::{Outcome, Step, TakeError, step_of};
 use crate::call::Call;
 use crate::driver::{Driver, refused_law};
 use crate::laws::{one_input, one_transcript};
 use crate::pool::Pool;
 use crate::state::{Reason, State, is_stopped};
+use crate::step::{Outcome, Step, TakeError, step_of};
 use std::alloc::{AllocError, Global};
 use std::marker::Model;
 use zber::Seq;

@@ -9,11 +9,11 @@ ghost use Rattle.zoom_pool.specs.Links.{waiting_at, stop_at, IsStopAt, SameOther
 ghost use Rattle.zoom_pool.specs.History.{After};
 ghost use Rattle.zoom_pool.specs.PoolSteps.{Recorded, IsStateAt, IsCallResult, IsRequestPut, IsTakeResult, IsTakeOutcome, TakeStep, IncompleteTake, HasHandedOutAll, IsPoolFinished};
 
-use crate::answer::{Outcome, Step, TakeError, step_of};
 use crate::call::Call;
 use crate::connection::Connection;
 use crate::laws::one_input;
 use crate::state::{Reason, State, is_stopped};
+use crate::step::{Outcome, Step, TakeError, step_of};
 use bytes::Bytes;
 use std::alloc::{AllocError, Global};
 use std::marker::Model;

@@ -7,8 +7,8 @@ ghost use Rattle.zoom_pool.specs.Learned.{IsRead, AreStillKnown};
 ghost use Rattle.zoom_pool.specs.Transcripts.{Transcript, outcome_of_reply, news_at, IsDone};
 ghost use Rattle.zoom_pool.specs.Steps.{InputStep, ProcessStep, PartialProcessStep};
 
-use crate::answer::{Outcome, TakeError};
 use crate::learning::learn_verdict;
+use crate::step::{Outcome, TakeError};
 use std::alloc::Global;
 use zapdu::{Apdu, ApduError, from_node};
 use zber::Node;

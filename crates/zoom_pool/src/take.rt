@@ -10,10 +10,10 @@ ghost use Rattle.zoom_pool.specs.Learned.{AreStillKnown};
 ghost use Rattle.zoom_pool.specs.Connections.{FramerAfter, AreConsistent};
 ghost use Rattle.zoom_pool.specs.Steps.{NextMessage, EmptyTake, LinkTakeStep, PartialTake, LinkIncompleteTake, stop_after, held_after};
 
-use crate::answer::{Outcome, TakeError, reason_of};
 use crate::connection::Connection;
 use crate::processing::process;
 use crate::state::{Reason, State, is_closing, is_stopped};
+use crate::step::{Outcome, TakeError, reason_of};
 use zber::laws::stream_laws;
 use zber::{FrameError, Framer, Node};
 use zknow::Knowledge;
@@ -91,12 +91,12 @@ fn settle(
     stop: &mut Option<State>,
     held: &mut Option<Node>,
     node: Node,
-    answer: &Result<Outcome, TakeError>,
+    taken: &Result<Outcome, TakeError>,
 )
-    ensures stopped { stop.new ≡ stop_after stop.old answer.now }
-    ensures kept { held.new ≡ held_after answer.now node held.old }
+    ensures stopped { stop.new ≡ stop_after stop.old taken.now }
+    ensures kept { held.new ≡ held_after taken.now node held.old }
 {
-    if let Err(error) = answer {
+    if let Err(error) = taken {
         match reason_of(*error) {
             Some(reason) => *stop = Some(State::Failed(reason)),
             None => *held = Some(node),

@@ -15,8 +15,8 @@ use Rattle.zorigin.specs.Log.{Past, Made, standing, request_list, admit_unless}
 use Rattle.ztarget.specs.Receiving.{TargetState}
 use Rattle.zoom_questions.specs.declared.question.Question.{Question}
 use Rattle.zoom_questions.specs.declared.question.MetaSettings.{MetaSettings}
-use Rattle.zoom_pool.specs.declared.answer.Step.{Step}
-use Rattle.zoom_pool.specs.declared.answer.TakeError.{TakeError}
+use Rattle.zoom_pool.specs.declared.step.Step.{Step}
+use Rattle.zoom_pool.specs.declared.step.TakeError.{TakeError}
 use Rattle.zoom_pool.specs.States.{is_stopped}
 use Rattle.zoom_pool.specs.PoolSteps.{IsTakeResult}
 use Rattle.zoom_pool.specs.Inputs.{Input, AlreadyStopped, Message, Foreign, Fault, Rest, Nothing}

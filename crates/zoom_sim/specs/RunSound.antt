@@ -5,8 +5,8 @@ use Rattle.zapdu.specs.declared.apdu.Apdu.{Apdu}
 use Rattle.ztarget.specs.Receiving.{TargetState}
 use Rattle.zoom_questions.specs.declared.question.Question.{Question}
 use Rattle.zoom_questions.specs.declared.question.MetaSettings.{MetaSettings}
-use Rattle.zoom_pool.specs.declared.answer.Step.{Step}
-use Rattle.zoom_pool.specs.declared.answer.TakeError.{TakeError}
+use Rattle.zoom_pool.specs.declared.step.Step.{Step}
+use Rattle.zoom_pool.specs.declared.step.TakeError.{TakeError}
 use Rattle.zoom_pool.specs.declared.state.Reason.TheVariants as reasons
 use Rattle.zoom_pool.specs.declared.state.State.TheVariants as states
 use Rattle.zoom_pool.specs.States.{is_stopped}

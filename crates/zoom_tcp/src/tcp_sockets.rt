@@ -61,11 +61,11 @@ fn acknowledge(fd: RawFd) {
 }
 
 /// The result of a call of a stream that had room for `most` octets.
-fn transfer(answer: io::Result<usize>, most: usize) -> Transfer
-    requires { IfOk answer (λ n. n ≤ most) }
+fn transfer(moved: io::Result<usize>, most: usize) -> Transfer
+    requires { IfOk moved (λ n. n ≤ most) }
     ensures { IsBoundedTransfer result most }
 {
-    match answer {
+    match moved {
         Ok(count) => Transfer::Octets(count),
         Err(error) => match error.kind() {
             ErrorKind::WouldBlock | ErrorKind::Interrupted => Transfer::NotYet,

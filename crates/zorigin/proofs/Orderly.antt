@@ -200,7 +200,7 @@ early s c h = none (unsendable s c) (early_refusal s c) h
     none b (Some r) e = absurd (cc)
 
 answered : (s : Standing) (c : Call) (apdu : Apdu) → refusal s c ≡ None → request_of s c ≡ Some apdu → HasRequest s c
-answered s c apdu h e = record { request = apdu; made = e; answer = ap (λ r. call_result_by r (request_of s c)) h ∙ ap (call_result_by None) e }
+answered s c apdu h e = record { request = apdu; made = e; returned = ap (λ r. call_result_by r (request_of s c)) h ∙ ap (call_result_by None) e }
 
 pub sent_request : (s : Standing) (c : Call) → refusal s c ≡ None → HasRequest s c
 sent_request s Init h = answered s Init (init_request s.settings) h refl

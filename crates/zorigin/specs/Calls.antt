@@ -152,9 +152,9 @@ call_result s call = call_result_by (refusal s call) (request_of s call)
 
 -- the result of sending the request of a call, memory aside
 abbrev pub IsSendResultOf : Option Apdu → Result Sent CallRefused → Type 0
-IsSendResultOf None answer = answer ≡ Err refused.SetUnknown
-IsSendResultOf (Some apdu) answer = IsSendResult apdu answer
+IsSendResultOf None result = result ≡ Err refused.SetUnknown
+IsSendResultOf (Some apdu) result = IsSendResult apdu result
 
 -- the result of sending the request of a call on an origin, memory aside
 abbrev pub IsSendResultFor : Standing → Call → Result Sent CallRefused → Type 0
-IsSendResultFor s call answer = IsSendResultOf (request_of s call) answer
+IsSendResultFor s call result = IsSendResultOf (request_of s call) result

@@ -50,4 +50,4 @@ pub record IsOrderly (p : Past) : Type 0 where
 pub record HasRequest (s : Standing) (call : Call) : Type 0 where
   pub request : Apdu
   pub made : request_of s call ≡ Some request
-  pub answer : call_result s call ≡ Ok (sent_of request)
+  pub returned : call_result s call ≡ Ok (sent_of request)

@@ -248,27 +248,27 @@ IsNotError error (Err reason) = reason ≢ error
 
 -- the result is not `Memory`, so the call makes an entry
 abbrev pub IsMadeCall : {X : Type 0} → Result X CallRefused → Type 0
-IsMadeCall answer = IsNotError calls.Memory answer
+IsMadeCall result = IsNotError calls.Memory result
 
 -- the result is the given one, unless it is `Memory`
 abbrev pub IsGivenResult : {X : Type 0} → Result X CallRefused → Result X CallRefused → Type 0
-IsGivenResult given answer = IsMadeCall answer → answer ≡ given
+IsGivenResult given result = IsMadeCall result → result ≡ given
 
 -- the result is not `Memory`, so the take makes an entry
 abbrev pub IsTakenReply : Result Taken Refused → Type 0
-IsTakenReply answer = IsNotError refused.Memory answer
+IsTakenReply result = IsNotError refused.Memory result
 
 -- the verdict is the given one, unless it is `Memory`
 abbrev pub IsGivenVerdict : Result Taken Refused → Result Taken Refused → Type 0
-IsGivenVerdict given answer = IsTakenReply answer → answer ≡ given
+IsGivenVerdict given result = IsTakenReply result → result ≡ given
 
 -- ---- what holds for each log that can have left the origin
 
 -- for each log that can have left the origin, the result is that of the call after it
 abbrev pub IsResultOfCall : Standing → Call → Result Sent CallRefused → Type 0
-IsResultOfCall origin call answer =
+IsResultOfCall origin call result =
     (settings : Settings) (log : Log) → After settings log origin
-    → IsGivenResult (call_result (standing (past settings log)) call) answer
+    → IsGivenResult (call_result (standing (past settings log)) call) result
 
 -- for each log that can have left the origin, nothing refuses the call after it, its request aside
 abbrev pub IsAdmissible : Standing → Call → Type 0
@@ -278,20 +278,20 @@ IsAdmissible origin call =
 
 -- before and after a call: each log that can have left the old origin, with the call, can have left the new one
 abbrev pub OriginAfterCall : Standing → Call → Result Sent CallRefused → Standing → Type 0
-OriginAfterCall old call answer new =
-    (settings : Settings) (log : Log) → After settings log old → IsMadeCall answer
+OriginAfterCall old call result new =
+    (settings : Settings) (log : Log) → After settings log old → IsMadeCall result
     → After settings (Made call ∷ log) new
 
 -- for each log that can have left the origin, the result is the verdict on the APDU after it
 abbrev pub IsResultOfTake : Standing → Apdu → Result Taken Refused → Type 0
-IsResultOfTake origin reply answer =
+IsResultOfTake origin reply result =
     (settings : Settings) (log : Log) → After settings log origin
-    → IsGivenVerdict (verdict (standing (past settings log)) reply) answer
+    → IsGivenVerdict (verdict (standing (past settings log)) reply) result
 
 -- before and after a take: each log that can have left the old origin, with the APDU, can have left the new one
 abbrev pub OriginAfterTake : Standing → Apdu → Result Taken Refused → Standing → Type 0
-OriginAfterTake old reply answer new =
-    (settings : Settings) (log : Log) → After settings log old → IsTakenReply answer
+OriginAfterTake old reply result new =
+    (settings : Settings) (log : Log) → After settings log old → IsTakenReply result
     → After settings (Got reply ∷ log) new
 
 -- for each log that can have left the origin, the verdict on the APDU after it accepts a reply

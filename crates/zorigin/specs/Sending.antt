@@ -182,11 +182,11 @@ IsSentUnless unsendable value (Err _) = ⊥
 
 -- the result of encoding an element
 abbrev pub IsEncodeResult : Element → Result (List ℕ) CallRefused → Type 0
-IsEncodeResult n answer = IsSentUnless (too_large (Some n)) (canonical n) answer
+IsEncodeResult n result = IsSentUnless (too_large (Some n)) (canonical n) result
 
 -- the result of sending an APDU
 abbrev pub IsSendResult : Apdu → Result Sent CallRefused → Type 0
-IsSendResult apdu answer = IsSentUnless (is_unsendable apdu) (sent_of apdu) answer
+IsSendResult apdu result = IsSentUnless (is_unsendable apdu) (sent_of apdu) result
 
 -- ---- the receiver reads what was sent
 

@@ -8,5 +8,5 @@ pub use Rattle.zquery_rpn.specs.Trees
 pub use Rattle.zquery_rpn.specs.declared.query.Attr
 pub use Rattle.zquery_rpn.specs.declared.query.AttrValue
 pub use Rattle.zquery_rpn.specs.declared.query.TermValue
-pub use Rattle.zasn.specs.Answers
+pub use Rattle.zasn.specs.Results
 pub use Rattle.zasn.specs.declared.error.BuildError

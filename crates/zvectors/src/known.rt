@@ -218,9 +218,9 @@ fn ask_places<K: Places>(
     requires askable { AreAskable questions.items }
     requires fit { AreFit settings }
     requires equal { length addresses.now ≡ length questions.items }
-    ensures read { IfOk result (λ answer. (asked : IsAskedOver
+    ensures read { IfOk result (λ made. (asked : IsAskedOver
         (λ c. IsSentTo K.places (λ p. p.name) (λ p. p.sends) (halves_at addresses.now c))
-        questions.items settings false (is_present addresses.now) answer.0)
+        questions.items settings false (is_present addresses.now) made.0)
         × AreOwnRead K.places (λ p. p.name) (λ p. p.sends) (halves_at addresses.now) (length questions.items)
         asked.history) }
 {
@@ -246,9 +246,9 @@ fn ask_known(
     requires askable { AreAskable questions.items }
     requires fit { AreFit settings }
     requires equal { length addresses.now ≡ length questions.items }
-    ensures read { IfOk result (λ answer. (asked : IsAskedOver
+    ensures read { IfOk result (λ made. (asked : IsAskedOver
         (λ c. IsSentTo places.items (λ p. p.name) (λ p. p.sends) (halves_at addresses.now c))
-        questions.items settings false (is_present addresses.now) answer.0)
+        questions.items settings false (is_present addresses.now) made.0)
         × AreOwnRead places.items (λ p. p.name) (λ p. p.sends) (halves_at addresses.now) (length questions.items)
         asked.history) }
 {

@@ -4,7 +4,7 @@ use Rattle.zber.specs.Elements.{Element, Primitive, Constructed, elements}
 use Rattle.zasn.specs.Within.{value_read, sequence_of, any_at}
 use Rattle.zasn.specs.Reading.{option_map}
 use Rattle.zasn.specs.declared.error.PartError.{PartError}
-use Rattle.zasn.specs.Answers.{MeaningResult}
+use Rattle.zasn.specs.Results.{MeaningResult}
 use Rattle.zquery_rpn.specs.Element.AnyQueries.{any_query, any_query_at, query_within}
 use Rattle.zquery_rpn.proofs.ElementTheory.AnyQueryPlaces.{alone_says}
 use Rattle.zapdu.specs.declared.productions.search_query.SearchQuery.{SearchQuery}

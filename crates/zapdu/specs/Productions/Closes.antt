@@ -18,7 +18,7 @@ close_table =
     ⨾ optional (opaque (context 201)) (λ v. v.other_info)
     ⨾ ended
 
--- the elements of `Close`, by the table
+-- Close (Z39.50-2003, 4.1): how its elements are read and built
 unfoldable pub close_parts : Elements Close
 close_parts =
     of_table close_table

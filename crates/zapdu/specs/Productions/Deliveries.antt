@@ -28,6 +28,6 @@ delivery syntax segments record_size segment_size other =
       other_info = other;
     }
 
--- the elements of `Delivery`, by the table
+-- PresentRequest from preferredRecordSyntax on (Z39.50-2003, 4.1): how its elements are read and built
 unfoldable pub delivery_parts : Elements Delivery
 delivery_parts = of_table delivery_table delivery (λ v. refl) (λ x. refl) refl

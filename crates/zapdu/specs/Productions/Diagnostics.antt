@@ -45,7 +45,7 @@ default_diag_table =
     ⨾ required info (λ v. v.info)
     ⨾ ended
 
--- the elements of `DefaultDiag`, by the table
+-- DefaultDiagFormat (Z39.50-2003, 4.1): how its elements are read and built
 unfoldable pub default_parts : Elements DefaultDiag
 default_parts =
     of_table default_diag_table (λ a b c. record { diag_set = a; condition = b; info = c }) (λ v. refl) (λ x. refl) refl

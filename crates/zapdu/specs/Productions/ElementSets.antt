@@ -17,7 +17,7 @@ database_element_set_table =
     ⨾ required (octets (context 103)) (λ v. v.element_set_name)
     ⨾ ended
 
--- the elements of `DatabaseElementSet`, by the table
+-- an entry of databaseSpecific (Z39.50-2003, 4.1: ElementSetNames): how its elements are read and built
 unfoldable pub database_element_set_parts : Elements DatabaseElementSet
 database_element_set_parts =
     of_table database_element_set_table (λ a b. record { database_name = a; element_set_name = b }) (λ v. refl)

@@ -46,7 +46,7 @@ external_table =
     ⨾ required content (λ v. v.content)
     ⨾ ended
 
--- the elements of `External`, by the table
+-- EXTERNAL (X.208, 34): how its elements are read and built
 unfoldable pub external_parts : Elements External
 external_parts =
     of_table external_table (λ a b c d. record { direct = a; indirect = b; descriptor = c; content = d }) (λ v. refl)

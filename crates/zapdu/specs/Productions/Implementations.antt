@@ -31,6 +31,6 @@ implementation id name version information other =
       other_info = other;
     }
 
--- the elements of `Implementation`, by the table
+-- implementationId to otherInfo of an Init APDU (Z39.50-2003, 4.1): how these elements are read and built
 unfoldable pub implementation_parts : Elements Implementation
 implementation_parts = of_table implementation_table implementation (λ v. refl) (λ x. refl) refl

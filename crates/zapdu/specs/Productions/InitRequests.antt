@@ -25,7 +25,7 @@ pub init_request_clear : clear init_request_table ≡ true
 unfolding implementation_parts
 init_request_clear = refl
 
--- the elements of `InitRequest`, by the table
+-- InitializeRequest (Z39.50-2003, 4.1): how its elements are read and built
 unfoldable pub init_request_parts : Elements InitRequest
 init_request_parts =
     of_table init_request_table

@@ -25,7 +25,7 @@ pub init_response_clear : clear init_response_table ≡ true
 unfolding implementation_parts
 init_response_clear = refl
 
--- the elements of `InitResponse`, by the table
+-- InitializeResponse (Z39.50-2003, 4.1): how its elements are read and built
 unfoldable pub init_response_parts : Elements InitResponse
 init_response_parts =
     of_table init_response_table

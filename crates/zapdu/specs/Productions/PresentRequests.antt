@@ -26,7 +26,7 @@ pub present_request_clear : clear present_request_table ≡ true
 unfolding delivery_parts
 present_request_clear = refl
 
--- the elements of `PresentRequest`, by the table
+-- PresentRequest (Z39.50-2003, 4.1): how its elements are read and built
 unfoldable pub present_request_parts : Elements PresentRequest
 present_request_parts =
     of_table present_request_table

@@ -18,7 +18,7 @@ present_response_table =
     ⨾ optional (opaque (context 201)) (λ v. v.other_info)
     ⨾ ended
 
--- the elements of `PresentResponse`, by the table
+-- PresentResponse (Z39.50-2003, 4.1): how its elements are read and built
 unfoldable pub present_response_parts : Elements PresentResponse
 present_response_parts =
     of_table present_response_table

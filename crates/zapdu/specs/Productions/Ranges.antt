@@ -13,7 +13,7 @@ range_table =
     ⨾ required (integer (context 2)) (λ v. v.number_of_records)
     ⨾ ended
 
--- the elements of `Range`, by the table
+-- Range of a PresentRequest (Z39.50-2003, 4.1): how its elements are read and built
 unfoldable pub range_parts : Elements Range
 range_parts =
     of_table range_table (λ a b. record { starting_position = a; number_of_records = b }) (λ v. refl) (λ x. refl) refl

@@ -50,7 +50,7 @@ record_table =
     ⨾ required (explicit (context 1) body) (λ v. v.body)
     ⨾ ended
 
--- the elements of `Record`, by the table
+-- NamePlusRecord (Z39.50-2003, 4.1): how its elements are read and built
 unfoldable pub record_parts : Elements Record
 record_parts = of_table record_table (λ a b. record { name = a; body = b }) (λ v. refl) (λ x. refl) refl
 

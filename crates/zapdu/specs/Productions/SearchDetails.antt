@@ -25,7 +25,7 @@ pub search_details_clear : clear search_details_table ≡ true
 unfolding search_query
 search_details_clear = refl
 
--- the elements of `SearchDetails`, by the table
+-- SearchRequest from smallSetElementSetNames on (Z39.50-2003, 4.1): how its elements are read and built
 unfoldable pub search_details_parts : Elements SearchDetails
 search_details_parts =
     of_table search_details_table

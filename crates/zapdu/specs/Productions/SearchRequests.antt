@@ -25,7 +25,7 @@ pub search_request_clear : clear search_request_table ≡ true
 unfolding search_details_parts search_query
 search_request_clear = refl
 
--- the elements of `SearchRequest`, by the table
+-- SearchRequest (Z39.50-2003, 4.1): how its elements are read and built
 unfoldable pub search_request_parts : Elements SearchRequest
 search_request_parts =
     of_table search_request_table

@@ -22,7 +22,7 @@ search_response_table =
     ⨾ optional (opaque (context 201)) (λ v. v.other_info)
     ⨾ ended
 
--- the elements of `SearchResponse`, by the table
+-- SearchResponse (Z39.50-2003, 4.1): how its elements are read and built
 unfoldable pub search_response_parts : Elements SearchResponse
 search_response_parts =
     of_table search_response_table

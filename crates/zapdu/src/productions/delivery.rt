@@ -1,6 +1,6 @@
 //! The last elements of a PresentRequest: how the target is to deliver the records.
 ghost use Rattle.std.specs.Prelude.{◌≡◌, [], IfOk};
-ghost use Rattle.zasn.specs.Answers.{ReadingResult, BuildStepResult};
+ghost use Rattle.zasn.specs.Results.{ReadingResult, BuildStepResult};
 ghost use Rattle.zapdu.specs.Productions.Deliveries.{delivery, delivery_parts};
 
 use std::alloc::Global;

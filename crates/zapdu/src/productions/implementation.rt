@@ -1,6 +1,6 @@
 //! The last elements of InitializeRequest and InitializeResponse: the implementation, and what either side may add.
 ghost use Rattle.std.specs.Prelude.{◌≡◌, [], IfOk};
-ghost use Rattle.zasn.specs.Answers.{ReadingResult, BuildStepResult};
+ghost use Rattle.zasn.specs.Results.{ReadingResult, BuildStepResult};
 ghost use Rattle.zapdu.specs.Productions.Implementations.{implementation, implementation_parts};
 
 use crate::productions::external::External;

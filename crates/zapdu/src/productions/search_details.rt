@@ -1,6 +1,6 @@
 //! The last elements of a SearchRequest: the element sets and the syntax of the records in the response, and the query.
 ghost use Rattle.std.specs.Prelude.{◌≡◌, [], IfOk};
-ghost use Rattle.zasn.specs.Answers.{ReadingResult, BuildStepResult};
+ghost use Rattle.zasn.specs.Results.{ReadingResult, BuildStepResult};
 ghost use Rattle.zapdu.specs.Productions.SearchDetails.{details_of, search_details_parts};
 
 use crate::productions::element_set_names::ElementSetNames;

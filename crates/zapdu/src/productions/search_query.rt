@@ -1,7 +1,7 @@
 //! The query of a SearchRequest.
 ghost use Rattle.zasn.specs.Reading.{option_map};
 ghost use Rattle.zquery_rpn.specs.Element.AnyQueries.{any_query, query_within};
-ghost use Rattle.zasn.specs.Answers.{MeaningResult};
+ghost use Rattle.zasn.specs.Results.{MeaningResult};
 ghost use Rattle.zapdu.specs.Productions.SearchQueries.{of_sum, search_query};
 
 use std::alloc::Global;

@@ -50,7 +50,7 @@ count_table =
     ⨾ required (integer (context 2)) (λ v. v.count)
     ⨾ ended
 
--- the elements of `SavedCount`, by the table
+-- a Count of a saved file: how its elements are read and built
 unfoldable pub count_parts : Elements SavedCount
 count_parts = of_table count_table (λ a b c. record { target = a; set = b; count = c }) (λ v. refl) (λ x. refl) refl
 
@@ -61,7 +61,7 @@ failed_table =
     ⨾ required (natural (context 1)) (λ v. v.set)
     ⨾ ended
 
--- the elements of `SavedFailed`, by the table
+-- a Failed of a saved file: how its elements are read and built
 unfoldable pub failed_parts : Elements SavedFailed
 failed_parts = of_table failed_table (λ a b. record { target = a; set = b }) (λ v. refl) (λ x. refl) refl
 
@@ -74,7 +74,7 @@ seen_table =
     ⨾ required whole_record (λ v. v.rec)
     ⨾ ended
 
--- the elements of `SavedSeen`, by the table
+-- a Seen of a saved file: how its elements are read and built
 unfoldable pub seen_parts : Elements SavedSeen
 seen_parts =
     of_table seen_table (λ a b c d. record { target = a; set = b; position = c; rec = d }) (λ v. refl) (λ x. refl) refl
@@ -92,7 +92,7 @@ diag_table =
     ⨾ required diag_rec (λ v. v.diag)
     ⨾ ended
 
--- the elements of `SavedDiag`, by the table
+-- a Diag of a saved file: how its elements are read and built
 unfoldable pub diag_parts : Elements SavedDiag
 diag_parts =
     of_table diag_table (λ a b c d. record { target = a; set = b; place = c; diag = d }) (λ v. refl) (λ x. refl) refl

@@ -1,6 +1,6 @@
 //! The elements of facts in a saved file.
 ghost use Rattle.std.specs.Prelude.{◌≡◌};
-ghost use Rattle.zasn.specs.Answers.{MeaningResult, BuildResult, BuildStepResult};
+ghost use Rattle.zasn.specs.Results.{MeaningResult, BuildResult, BuildStepResult};
 ghost use Rattle.zknow.specs.declared.fact.Fact.TheVariants.{Count, Failed, Seen, Diag};
 ghost use Rattle.zknow.specs.Tables.FactRefs.{fact_of};
 ghost use Rattle.zknow.specs.Saved.SavedFacts.{any_fact, count_parts, diag_parts, failed_parts, fact_in_range, saved_diag, saved_fact, saved_seen, seen_parts};

@@ -1,7 +1,7 @@
 //! The element of the names of targets in a saved file.
 ghost use Rattle.std.specs.Prelude.{◌≡◌, IfOk};
 ghost use Rattle.zasn.specs.Within.{all_meanings, list_meaning, whole_of};
-ghost use Rattle.zasn.specs.Answers.{MeaningResult};
+ghost use Rattle.zasn.specs.Results.{MeaningResult};
 ghost use Rattle.zknow.specs.Saved.SavedFacts.{saved_name, saved_names};
 
 use crate::fact::Names;

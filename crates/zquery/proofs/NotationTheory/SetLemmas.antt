@@ -11,7 +11,7 @@ use Rattle.zber.specs.declared.oid.OidError.{OidError}
 use Rattle.zber.specs.declared.oid.OidError.TheVariants.{OidText, OidArc, OidTooShort, OidFirst, Memory}
 use Rattle.zber.specs.Dotted.{numeral, dotted}
 use Rattle.zber.specs.Oids.{IsOid, HasRoot, is_oid}
-use Rattle.zber.specs.OidAnswers.{DottedResult, HasNoRoot}
+use Rattle.zber.specs.OidResults.{DottedResult, HasNoRoot}
 use Rattle.zber.proofs.DottedLemmas.{printed}
 use Rattle.zber.proofs.DottedReading.{dotted_apart, IsPlain, plain_digits}
 use Rattle.zber.proofs.NumeralLemmas.{numeral_is}

@@ -8,7 +8,7 @@ use Rattle.zasn.specs.Laws.{IsLawfulPlace, IsSpelled}
 use Rattle.zber.proofs.Runs.{elements-forest}
 use Rattle.zasn.specs.declared.error.BuildError.{BuildError}
 use Rattle.zasn.specs.declared.error.BuildError.TheVariants.{NotSpellable, Memory}
-use Rattle.zasn.specs.Answers.{BuildResult, WritingResult}
+use Rattle.zasn.specs.Results.{BuildResult, WritingResult}
 use Rattle.zasn.specs.Places.{oid}
 use Rattle.zquery_rpn.specs.Trees.{Tree, OfTerm, OfSet, OfSetAttrs, Of, OfProx, RpnQuery}
 use Rattle.zquery_rpn.specs.Element.Operands.{AttrTerm, ResultSet, ResultAttr}

@@ -43,7 +43,7 @@ attribute_table =
     ⨾ required value (λ a. a.value)
     ⨾ ended
 
--- the elements of `Attr`, by the table
+-- AttributeElement (Z39.50-2003, 4.1): how its elements are read and built
 unfoldable pub attribute_parts : Elements Attr
 attribute_parts =
     of_table attribute_table (λ a b c. record { attr_set = a; kind = b; value = c }) (λ a. refl) (λ x. refl) refl
@@ -96,7 +96,7 @@ term = of_choice terms term_pick term-same term-back refl
 abbrev pub attributes_term_table : ComponentTable (List Attr × TermValue)
 attributes_term_table = required attributes (λ p. p.0) ⨾ required term (λ p. p.1) ⨾ ended
 
--- the elements of attributes and a term, by the table
+-- AttributesPlusTerm (Z39.50-2003, 4.1): how its elements are read and built
 unfoldable pub attributes_term_parts : Elements (List Attr × TermValue)
 attributes_term_parts = of_table attributes_term_table (λ a b. (a, b)) (λ p. refl) (λ x. refl) refl
 
@@ -104,7 +104,7 @@ attributes_term_parts = of_table attributes_term_table (λ a b. (a, b)) (λ p. r
 abbrev pub set_attributes_table : ComponentTable (List ℕ × List Attr)
 set_attributes_table = required (octets (context 31)) (λ p. p.0) ⨾ required attributes (λ p. p.1) ⨾ ended
 
--- the elements of the name of a result set and attributes, by the table
+-- ResultSetPlusAttributes (Z39.50-2003, 4.1): how its elements are read and built
 unfoldable pub set_attributes_parts : Elements (List ℕ × List Attr)
 set_attributes_parts = of_table set_attributes_table (λ a b. (a, b)) (λ p. refl) (λ x. refl) refl
 

@@ -7,7 +7,7 @@ ghost use Rattle.zasn.specs.Reading.{option_map};
 ghost use Rattle.zasn.specs.Table.{Elements};
 ghost use Rattle.zber.specs.Tags.{same_tag};
 ghost use Rattle.zasn.specs.Within.{value_read, sequence_of, whole_of};
-ghost use Rattle.zasn.specs.Answers.{MeaningResult};
+ghost use Rattle.zasn.specs.Results.{MeaningResult};
 ghost use Rattle.zasn.specs.Places.{alone, oid};
 ghost use Rattle.zquery_rpn.specs.Element.Operands.{attributes_term_parts, operand, set_attributes_parts};
 ghost use Rattle.zquery_rpn.specs.Element.Operators.{operator};

@@ -3,7 +3,7 @@ ghost use Rattle.std.specs.Prelude.{[], ◌∷◌, Some};
 ghost use Rattle.zber.specs.AsnTags.{context};
 ghost use Rattle.zasn.specs.Within.{around};
 ghost use Rattle.zasn.specs.Place.{Place};
-ghost use Rattle.zasn.specs.Answers.{WritingResult, BuildResult};
+ghost use Rattle.zasn.specs.Results.{WritingResult, BuildResult};
 ghost use Rattle.zquery_rpn.specs.Element.Operands.{AttrTerm, ResultAttr};
 ghost use Rattle.zquery_rpn.specs.Element.Operators.{operator};
 ghost use Rattle.zquery_rpn.specs.Element.Type1.{op, WritesQuery};

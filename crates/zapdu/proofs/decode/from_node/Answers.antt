@@ -2,7 +2,7 @@ use Rattle.std.proofs.Common.{Err, sym, subst}
 use Rattle.zber.proofs.Runs.{seen_cons}
 use Rattle.zasn.specs.declared.error.PartError.{PartError}
 use Rattle.zasn.specs.declared.error.PartError.TheVariants.{Misfit}
-use Rattle.zasn.specs.Answers.{ReadingResult}
+use Rattle.zasn.specs.Results.{ReadingResult}
 use Rattle.zapdu.specs.Writes.{apdu_at}
 use Rattle.zapdu.proofs.Decoding.{decodes_ok, decodes_malformed}
 use Rattle.zapdu.proofs.decode.from_node.Goals as goal

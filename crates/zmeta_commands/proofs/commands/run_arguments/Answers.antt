@@ -7,9 +7,9 @@ pub returns : goal.returns
 returns g c = (
   c.parse-asked.result,
   after_parsed g.S.Made.Write.contents (g.S.Folder.octets c.args.system.now) _ c.parse-asked.result
-      (c.answer.new.input ≡ c.args.input.now)
+      (c.run_parsed.new.input ≡ c.args.input.now)
       (streams g.R.Read.remaining g.W.Write.contents g.E.Write.contents c.args.input.now c.args.output.now c.args.errors.now)
-      (streams g.R.Read.remaining g.W.Write.contents g.E.Write.contents c.answer.new.input c.answer.new.output
-      c.answer.new.errors)
-      c.answer.result c.parse-asked.ensures.asks c.answer.ensures (λ same. ap (input_device g.R.Read.remaining) same),
+      (streams g.R.Read.remaining g.W.Write.contents g.E.Write.contents c.run_parsed.new.input c.run_parsed.new.output
+      c.run_parsed.new.errors)
+      c.run_parsed.result c.parse-asked.ensures.asks c.run_parsed.ensures (λ same. ap (input_device g.R.Read.remaining) same),
 )

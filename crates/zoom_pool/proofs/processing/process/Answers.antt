@@ -4,8 +4,8 @@ use Rattle.zapdu.specs.declared.apdu.ApduError.{ApduError}
 use Rattle.zapdu.specs.declared.apdu.ApduError.TheVariants as decode
 use Rattle.zapdu.specs.Writes.{IsDecodeResult}
 use Rattle.zknow.specs.declared.fact.Fact.{Fact}
-use Rattle.zoom_pool.specs.declared.answer.TakeError.{TakeError}
-use Rattle.zoom_pool.specs.declared.answer.TakeError.TheVariants as errors
+use Rattle.zoom_pool.specs.declared.step.TakeError.{TakeError}
+use Rattle.zoom_pool.specs.declared.step.TakeError.TheVariants as errors
 use Rattle.zorigin.specs.Standings.{Standing}
 use Rattle.zoom_pool.specs.Inputs.{Message}
 use Rattle.zoom_pool.specs.Steps.{ProcessStep}

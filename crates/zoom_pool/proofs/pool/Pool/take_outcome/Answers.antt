@@ -9,7 +9,7 @@ returns-clause-returned c = rw (← c.self.view_is) (λ settings partial h a don
     let l = at_index settings h a.transcript _ c.args.c _ c.index_mut.result.now (rw (← c.self.view_is) at c.requires)
     a.stands c.index_mut.ensures.value in
     let t = c.take-taken.ensures.done (a.transcript c.args.c) l.matches done in
-    (t.input, t.is_next, t.answers))
+    (t.input, t.is_next, t.returned))
 
 pub returns-clause-after : goal.returns-clause-after
 returns-clause-after c = rw (← c.self.view_is) (λ done settings partial h a.

@@ -66,7 +66,7 @@ CountedReadingResult reading (Err Memory) left = Unit {0}
 
 -- the same for a reader that takes the elements over
 abbrev pub OwnReadingResult : {A : Type 0} → Result A (List Element) → Result A PartError → List Element → Type 0
-OwnReadingResult reading answer left = CountedReadingResult reading answer (length left)
+OwnReadingResult reading result left = CountedReadingResult reading result (length left)
 
 -- the builder returned the spelling, or there is none, unless no memory was found
 abbrev pub BuildResult : {A : Type 0} → Option A → Result A BuildError → Type 0
