@@ -47,7 +47,7 @@ quick:
 
 # It does nothing if the program was proved and built of the present sources.
 program:
-	RT_JOBS=$(checks) scripts/prove
+	scripts/prove
 
 show: program
 	$(program) show < examples/present-response.hex
