@@ -32,7 +32,7 @@ fish = $(DESTDIR)$(PREFIX)/share/fish/vendor_completions.d
 demo: program
 	scripts/demo
 
-# As many checks at a time as there are processors, and three at most: each takes 5.4 GB at most, of 24. Left to itself rt ci
+# As many checks at a time as there are processors, and three at most: each takes 5.5 GB at most, of 24. Left to itself rt ci
 # reserves more, and lets processors idle; and more checks than processors keep the longest chain of them waiting.
 test:
 	RT_JOBS=$(checks) rt ci
