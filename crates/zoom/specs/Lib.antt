@@ -55,6 +55,10 @@ pub use Rattle.zoom_sim.specs.RunTakeAll
 pub use Rattle.zoom_tcp.specs.Asking
 pub use Rattle.zoom_tcp.specs.AskingSteps
 pub use Rattle.zoom_tcp.specs.Clients
+pub use Rattle.zoom_tcp.specs.Connecting
+pub use Rattle.zoom_tcp.specs.declared.limits.Limits
 pub use Rattle.zoom_tcp.specs.declared.service.ServeError
 pub use Rattle.zoom_tcp.specs.HostLinks
 pub use Rattle.zoom_tcp.specs.Serving
+pub use Rattle.zoom_tcp.specs.Silence
+pub use Rattle.zoom_tcp.specs.SocketFacts

@@ -11,7 +11,7 @@ use Rattle.zoom_io.specs.TalksAmong.{halves_at}
 use Rattle.zoom_io.specs.TalkTraces.{IsStoppedAt, IsCutOff}
 use Rattle.zoom_io.proofs.Apart.{behind, one_more, none_before, none_both, others_made, others_follow, transcript_alike, idle_alike, handed_out_alike, over_alike, follows_alike}
 use Rattle.zoom_io.proofs.Joining.{stopped_over}
-use Rattle.zoom_tcp.specs.Asking.{KnownOctets, is_present, Opening, unreached, begun, unsent, WholeTalk, ended_itself, stopped_for_reason as was_stopped, WholeTalkIf, IsConnectionAsked, IsConnectionAskedIf}
+use Rattle.zoom_tcp.specs.Asking.{KnownOctets, HostClaims, is_present, Opening, unreached, begun, unsent, WholeTalk, ended_itself, stopped_for_reason as was_stopped, WholeTalkIf, IsConnectionAsked, IsConnectionAskedIf}
 use Rattle.zoom_tcp.specs.AskingSteps.{IsOpened, IsOpenedIf}
 
 -- ---- entries of a list for each connection
@@ -65,10 +65,10 @@ none_left (x ∷ xs) is = absurd cc
 
 -- ---- a trace after one history is a trace after the other
 
-pub opening_alike : {IsOwn : KnownOctets → Type 0} {q : List Question} {s : MetaSettings} {c : ℕ} {h more : History}
+pub opening_alike : {host : HostClaims} {q : List Question} {s : MetaSettings} {c : ℕ} {h more : History}
     {link : Option KnownOctets} (k : History)
-    → events_on c h ≡ events_on c k → Opening IsOwn q s c h more link → Opening IsOwn q s c k more link
-opening_alike k e unreached = unreached
+    → events_on c h ≡ events_on c k → Opening host q s c h more link → Opening host q s c k more link
+opening_alike k e (unreached why) = unreached why
 opening_alike {q = q} {s = s} {c = c} {h = h} k e (begun came calls octets own idle all) =
     let same = behind c (call_events c calls) h k e in
     begun came calls octets own (idle_alike q s c (call_events c calls ++ h) (call_events c calls ++ k) same idle)
@@ -80,66 +80,79 @@ opening_alike {q = q} {s = s} {c = c} {h = h} k e (unsent came calls octets own 
     (handed_out_alike s c ((c, HandedOut octets) ∷ (call_events c calls ++ h)) ((c, HandedOut octets) ∷ (call_events c calls ++ k))
     (one_more c (HandedOut octets) (call_events c calls ++ h) (call_events c calls ++ k) same) all)
 
--- What is a link of its own for one reason is one for another.
-pub opening_for : {IsOwn IsIts : KnownOctets → Type 0} {q : List Question} {s : MetaSettings} {c : ℕ} {h more : History}
-    {link : Option KnownOctets} → ((came : KnownOctets) → IsOwn came → IsIts came) → Opening IsOwn q s c h more link
-    → Opening IsIts q s c h more link
-opening_for f unreached = unreached
-opening_for f (begun came calls octets own idle all) = begun came calls octets (f came own) idle all
-opening_for f (unsent came calls octets own idle all) = unsent came calls octets (f came own) idle all
+-- What is said of one host is said of another.
+pub opening_for : {host other : HostClaims} {q : List Question} {s : MetaSettings} {c : ℕ} {h more : History}
+    {link : Option KnownOctets} → ((came : KnownOctets) → host.IsOwn came → other.IsOwn came)
+    → (host.IsUnreached → other.IsUnreached) → Opening host q s c h more link → Opening other q s c h more link
+opening_for f g (unreached why) = unreached (g why)
+opening_for f g (begun came calls octets own idle all) = begun came calls octets (f came own) idle all
+opening_for f g (unsent came calls octets own idle all) = unsent came calls octets (f came own) idle all
+
+-- A read fails for one reason where it does for another.
+talk_for : {fault other : Type 0} {q : List Question} {s : MetaSettings} {at_once : Bool} {came : KnownOctets} {c : ℕ}
+    {h more : History} → (fault → other) → WholeTalk fault q s at_once came c h more
+    → WholeTalk other q s at_once came c h more
+talk_for f (ended_itself t first over) = ended_itself t first over
+talk_for f (was_stopped reason t first for cut faulty) = was_stopped reason t first for cut (λ is. f (faulty is))
+
+pub talk_if_for : {fault other : Type 0} (q : List Question) (s : MetaSettings) (at_once : Bool) (c : ℕ)
+    (h more : History) → (fault → other) → (link : Option KnownOctets) → WholeTalkIf fault q s at_once c h link more
+    → WholeTalkIf other q s at_once c h link more
+talk_if_for q s at_once c h more f (Some came) t = talk_for f t
+talk_if_for q s at_once c h more f None t = t
 
 cut_alike : (s : MetaSettings) (c : ℕ) (h k : History) → events_on c h ≡ events_on c k → IsCutOff s c h → IsCutOff s c k
 cut_alike s c h k e cut p heard = cut p (transcript_alike (settings_of s) c h k p e heard)
 
-talking_alike : {q : List Question} {s : MetaSettings} {at_once : Bool} {came : KnownOctets} {c : ℕ} {h more : History}
-    (k : History) → events_on c h ≡ events_on c k → WholeTalk q s at_once came c h more
-    → WholeTalk q s at_once came c k more
+talking_alike : {fault : Type 0} {q : List Question} {s : MetaSettings} {at_once : Bool} {came : KnownOctets} {c : ℕ}
+    {h more : History} (k : History) → events_on c h ≡ events_on c k → WholeTalk fault q s at_once came c h more
+    → WholeTalk fault q s at_once came c k more
 talking_alike {s = s} {c = c} {h = h} k e (ended_itself {more = more} f first over) =
     ended_itself (follows_alike k e f) first (over_alike s c (more ++ h) (more ++ k) (behind c more h k e) over)
-talking_alike {s = s} {c = c} {h = h} k e (was_stopped {more = more} reason f first for cut) =
+talking_alike {s = s} {c = c} {h = h} k e (was_stopped {more = more} reason f first for cut faulty) =
     was_stopped reason (follows_alike k e f) first for
-    (λ is. cut_alike s c (more ++ h) (more ++ k) (behind c more h k e) (cut is))
+    (λ is. cut_alike s c (more ++ h) (more ++ k) (behind c more h k e) (cut is)) faulty
 
 -- ---- its events are on no other connection
 
-pub others_opening : {IsOwn : KnownOctets → Type 0} {q : List Question} {s : MetaSettings} {c : ℕ} {h more : History}
-    {link : Option KnownOctets} (i : ℕ) → Opening IsOwn q s c h more link → (c == i) ≡ false → events_on i more ≡ []
-others_opening {c = c} i unreached far = only_other c i (Stopped reasons.Connect) [] far
+pub others_opening : {host : HostClaims} {q : List Question} {s : MetaSettings} {c : ℕ} {h more : History}
+    {link : Option KnownOctets} (i : ℕ) → Opening host q s c h more link → (c == i) ≡ false → events_on i more ≡ []
+others_opening {c = c} i (unreached why) far = only_other c i (Stopped reasons.Connect) [] far
 others_opening {c = c} i (begun came calls octets own idle all) far =
     only_other c i (HandedOut octets) (call_events c calls) far ∙ others_made c i calls far
 others_opening {c = c} i (unsent came calls octets own idle all) far =
     only_other c i (Stopped reasons.Write) ((c, HandedOut octets) ∷ call_events c calls) far
     ∙ only_other c i (HandedOut octets) (call_events c calls) far ∙ others_made c i calls far
 
-others_talking : {q : List Question} {s : MetaSettings} {at_once : Bool} {came : KnownOctets} {c : ℕ} {h more : History}
-    (i : ℕ) → WholeTalk q s at_once came c h more → (c == i) ≡ false → events_on i more ≡ []
+others_talking : {fault : Type 0} {q : List Question} {s : MetaSettings} {at_once : Bool} {came : KnownOctets} {c : ℕ}
+    {h more : History} (i : ℕ) → WholeTalk fault q s at_once came c h more → (c == i) ≡ false → events_on i more ≡ []
 others_talking i (ended_itself f first over) far = others_follow i f far
-others_talking {c = c} i (was_stopped {more = more} reason f first for cut) far =
+others_talking {c = c} i (was_stopped {more = more} reason f first for cut faulty) far =
     only_other c i (Stopped reason) more far ∙ others_follow i f far
 
-pub others_talk : (q : List Question) (s : MetaSettings) (at_once : Bool) (c : ℕ) (h more : History)
-    (link : Option KnownOctets) (i : ℕ) → WholeTalkIf q s at_once c h link more → (c == i) ≡ false
+pub others_talk : (fault : Type 0) (q : List Question) (s : MetaSettings) (at_once : Bool) (c : ℕ) (h more : History)
+    (link : Option KnownOctets) (i : ℕ) → WholeTalkIf fault q s at_once c h link more → (c == i) ≡ false
     → events_on i more ≡ []
-others_talk q s at_once c h more (Some came) i t far = others_talking i t far
-others_talk q s at_once c h more None i t far = ap (events_on i) t
+others_talk fault q s at_once c h more (Some came) i t far = others_talking i t far
+others_talk fault q s at_once c h more None i t far = ap (events_on i) t
 
 -- ---- a connection that is over
 
 -- A host was not reached.
-unreached_over : {IsOwn : KnownOctets → Type 0} {q : List Question} {s : MetaSettings} {c : ℕ} {h more : History}
-    {link : Option KnownOctets} → Opening IsOwn q s c h more link → link ≡ None → IsStoppedAt s c (more ++ h)
-unreached_over {s = s} {c = c} {h = h} unreached e = stopped_over s c reasons.Connect h
+unreached_over : {host : HostClaims} {q : List Question} {s : MetaSettings} {c : ℕ} {h more : History}
+    {link : Option KnownOctets} → Opening host q s c h more link → link ≡ None → IsStoppedAt s c (more ++ h)
+unreached_over {s = s} {c = c} {h = h} (unreached why) e = stopped_over s c reasons.Connect h
 unreached_over (begun came calls octets own idle all) e = absurd cc
 unreached_over {s = s} {c = c} {h = h} (unsent came calls octets own idle all) e =
     stopped_over s c reasons.Write ((c, HandedOut octets) ∷ call_events c calls ++ h)
 
-module _ (IsOwn : KnownOctets → Type 0) (q : List Question) (s : MetaSettings) where
+module _ (host : HostClaims) (q : List Question) (s : MetaSettings) where
   -- ---- within a history
 
   -- The host was talked with.
   pub talked_out : (at_once : Bool) (came : KnownOctets) (c : ℕ) (h now more : History)
-      → IsOpened IsOwn q s c (Some came) h → WholeTalk q s at_once came c h more
-      → events_on c now ≡ events_on c (more ++ h) → IsStoppedAt s c now → IsConnectionAsked IsOwn q s at_once c now
+      → IsOpened host q s c (Some came) h → WholeTalk host.IsFaulty q s at_once came c h more
+      → events_on c now ≡ events_on c (more ++ h) → IsStoppedAt s c now → IsConnectionAsked host q s at_once c now
   talked_out at_once came c h now more o talk mine over = record {
     opened = o.more;
     link = Some came;
@@ -151,8 +164,8 @@ module _ (IsOwn : KnownOctets → Type 0) (q : List Question) (s : MetaSettings)
   }
 
   -- The host was not reached.
-  pub none_talked : (at_once : Bool) (c : ℕ) (h now : History) → IsOpened IsOwn q s c None h
-      → events_on c now ≡ events_on c h → IsConnectionAsked IsOwn q s at_once c now
+  pub none_talked : (at_once : Bool) (c : ℕ) (h now : History) → IsOpened host q s c None h
+      → events_on c now ≡ events_on c h → IsConnectionAsked host q s at_once c now
   none_talked at_once c h now o mine =
       let alone : events_on c o.more ≡ events_on c (o.more ++ []) = ap (events_on c) (sym (append-nil o.more)) in
       record {
@@ -168,13 +181,13 @@ module _ (IsOwn : KnownOctets → Type 0) (q : List Question) (s : MetaSettings)
   -- ---- within a history that goes on
 
   pub opened_since : (chosen : Bool) (i : ℕ) (link : Option KnownOctets) (more h : History) → events_on i more ≡ []
-      → IsOpenedIf IsOwn chosen q s i link h → IsOpenedIf IsOwn chosen q s i link (more ++ h)
+      → IsOpenedIf host chosen q s i link h → IsOpenedIf host chosen q s i link (more ++ h)
   opened_since true i link more h none o =
       record { more = o.more; opening = o.opening; mine = none_before i more h none ∙ o.mine }
   opened_since false i link more h none o = (o.0, none_both i more h none o.1)
 
   pub talked_since : (at_once chosen : Bool) (i : ℕ) (more h : History) → events_on i more ≡ []
-      → IsConnectionAskedIf IsOwn chosen q s at_once i h → IsConnectionAskedIf IsOwn chosen q s at_once i (more ++ h)
+      → IsConnectionAskedIf host chosen q s at_once i h → IsConnectionAskedIf host chosen q s at_once i (more ++ h)
   talked_since at_once true i more h none t = record {
     opened = t.opened;
     link = t.link;

@@ -1,5 +1,5 @@
 -- What reads do to the octets that a link has left.
-use Rattle.std.proofs.Common.{◌≡◌, ◌∙◌, subst, ℕ, List, Option, None, Some, Result, Ok, Err}
+use Rattle.std.proofs.Common.{◌≡◌, subst, ℕ, List, None, Some, Result, Ok, Err}
 use Rattle.std.specs.Io.KnownBytes.{Keeps, ReadConsumes}
 use Rattle.std.proofs.KnownBytes.{Keeps-trans}
 use Rattle.zoom_io.specs.declared.device.Failed.{Failed}

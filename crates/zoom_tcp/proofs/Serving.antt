@@ -1,5 +1,5 @@
 -- A new target answers a client.
-use Rattle.std.proofs.Common.{◌≡◌, subst, ◌⊎◌, inr, ℕ, [], Result, Ok, Err}
+use Rattle.std.proofs.Common.{◌≡◌, subst, inr, [], Result, Err}
 use Rattle.zoom_pool.specs.Hosts.{HostState, Holdings, HostAfter}
 use Rattle.zoom_io.specs.declared.replies.AnswerError.{AnswerError}
 use Rattle.zoom_io.specs.declared.replies.AnswerError.TheVariants as answers

@@ -34,25 +34,34 @@ link_at links octets c = octets_of (halves_at links c) octets
 abbrev pub CameFirst : KnownOctets → List ℕ → Type 0
 CameFirst came read = (left : KnownOctets) × Consumes came left read
 
+-- What is said of asking a host: which octets come over a link to it, why it was not reached, and why a read failed.
+pub record HostClaims : Type 1 where
+  -- these octets come over a link to it
+  pub IsOwn : KnownOctets → Type 0
+  -- there is a reason that it was not reached
+  pub IsUnreached : Type 0
+  -- there is a reason that a read of it failed
+  pub IsFaulty : Type 0
+
 -- ---- the events of one connection
 
 -- Opening a connection to a host, after a history: its events, the newest first, and the octets of its link, if there
--- is one to talk over. `IsOwn` says which octets come over a link of its own.
--- Unreached: the connection is stopped for `Connect`. Begun: over a link of its own, the due calls are made, and
--- everything that waits is handed out and written. Unsent: that write failed, and the connection is stopped for
--- `Write`.
+-- is one to talk over.
+-- Unreached: the host was not reached, and the connection is stopped for `Connect`. Begun: over a link of its own, the
+-- due calls are made, and everything that waits is handed out and written. Unsent: that write failed, and the
+-- connection is stopped for `Write`.
 pub data Opening
-    (IsOwn : KnownOctets → Type 0) (questions : List Question) (s : MetaSettings) (c : ℕ) (h : History)
+    (host : HostClaims) (questions : List Question) (s : MetaSettings) (c : ℕ) (h : History)
     : History → Option KnownOctets → Type 0 where
-  unreached : Opening IsOwn questions s c h ((c, Stopped reasons.Connect) ∷ []) None
-  begun : (came : KnownOctets) (calls : List Call) (octets : List ℕ) → IsOwn came
+  unreached : host.IsUnreached → Opening host questions s c h ((c, Stopped reasons.Connect) ∷ []) None
+  begun : (came : KnownOctets) (calls : List Call) (octets : List ℕ) → host.IsOwn came
       → IsIdleConnection questions s c (call_events c calls ++ h)
       → IsAllHandedOut s c ((c, HandedOut octets) ∷ (call_events c calls ++ h))
-      → Opening IsOwn questions s c h ((c, HandedOut octets) ∷ call_events c calls) (Some came)
-  unsent : (came : KnownOctets) (calls : List Call) (octets : List ℕ) → IsOwn came
+      → Opening host questions s c h ((c, HandedOut octets) ∷ call_events c calls) (Some came)
+  unsent : (came : KnownOctets) (calls : List Call) (octets : List ℕ) → host.IsOwn came
       → IsIdleConnection questions s c (call_events c calls ++ h)
       → IsAllHandedOut s c ((c, HandedOut octets) ∷ (call_events c calls ++ h))
-      → Opening IsOwn questions s c h
+      → Opening host questions s c h
       ((c, Stopped reasons.Write) ∷ (c, HandedOut octets) ∷ call_events c calls) None
 
 -- After how many reads a talk may be stopped for `Turns`: after 1,000,000 if it is alone. If talks go on at once,
@@ -70,59 +79,61 @@ CanStopFor at_once Ended reads reasons.Ended = Unit {0}
 CanStopFor at_once _ reads reason = ⊥
 
 -- A whole talk: the octets that came over the link first were read, and the connection ended by itself, or was
--- stopped. It is stopped for `Ended` only if the end of the input cut it off.
+-- stopped. It is stopped for `Ended` only if the end of the input cut it off, and for `Read` only if a read failed.
 pub data WholeTalk
-    (questions : List Question) (s : MetaSettings) (at_once : Bool) (came : KnownOctets) (c : ℕ) (h : History)
+    (IsFaulty : Type 0) (questions : List Question) (s : MetaSettings) (at_once : Bool) (came : KnownOctets) (c : ℕ)
+    (h : History)
     : History → Type 0 where
   ended_itself : {more : History} {read written : List ℕ} {reads : ℕ} {stage : Stage}
       → TalkTrace questions s c h more read written reads stage → CameFirst came read → IsStoppedAt s c (more ++ h)
-      → WholeTalk questions s at_once came c h more
+      → WholeTalk IsFaulty questions s at_once came c h more
   stopped_for_reason : {more : History} {read written : List ℕ} {reads : ℕ} {stage : Stage} (reason : Reason)
       → TalkTrace questions s c h more read written reads stage → CameFirst came read
       → CanStopFor at_once stage reads reason → (reason ≡ reasons.Ended → IsCutOff s c (more ++ h))
-      → WholeTalk questions s at_once came c h ((c, Stopped reason) ∷ more)
+      → (reason ≡ reasons.Read → IsFaulty)
+      → WholeTalk IsFaulty questions s at_once came c h ((c, Stopped reason) ∷ more)
 
 -- A whole talk if there is a link, and no events otherwise.
-abbrev pub WholeTalkIf : List Question → MetaSettings → Bool → ℕ → History → Option KnownOctets → History → Type 0
-WholeTalkIf questions s at_once c h (Some came) more = WholeTalk questions s at_once came c h more
-WholeTalkIf questions s at_once c h None more = more ≡ []
+abbrev pub WholeTalkIf
+    : Type 0 → List Question → MetaSettings → Bool → ℕ → History → Option KnownOctets → History → Type 0
+WholeTalkIf IsFaulty questions s at_once c h (Some came) more = WholeTalk IsFaulty questions s at_once came c h more
+WholeTalkIf IsFaulty questions s at_once c h None more = more ≡ []
 
 -- ---- among the events of the others
 
 -- A connection was opened, its host was talked with over its link if it has one, and the connection has no other
 -- events. It is Closed or Failed.
 pub record IsConnectionAsked
-    (IsOwn : KnownOctets → Type 0) (questions : List Question) (s : MetaSettings) (at_once : Bool) (c : ℕ)
-    (h : History)
+    (host : HostClaims) (questions : List Question) (s : MetaSettings) (at_once : Bool) (c : ℕ) (h : History)
     : Type 0 where
   pub opened : History
   pub link : Option KnownOctets
-  pub opening : Opening IsOwn questions s c [] opened link
+  pub opening : Opening host questions s c [] opened link
   pub more : History
-  pub talked : WholeTalkIf questions s at_once c opened link more
+  pub talked : WholeTalkIf host.IsFaulty questions s at_once c opened link more
   pub mine : events_on c h ≡ events_on c (more ++ opened)
   pub over : IsStoppedAt s c h
 
 -- A chosen connection is asked; another has no events.
 abbrev pub IsConnectionAskedIf
-    : (KnownOctets → Type 0) → Bool → List Question → MetaSettings → Bool → ℕ → History → Type 0
-IsConnectionAskedIf IsOwn true questions s at_once c h = IsConnectionAsked IsOwn questions s at_once c h
-IsConnectionAskedIf IsOwn false questions s at_once c h = events_on c h ≡ []
+    : HostClaims → Bool → List Question → MetaSettings → Bool → ℕ → History → Type 0
+IsConnectionAskedIf host true questions s at_once c h = IsConnectionAsked host questions s at_once c h
+IsConnectionAskedIf host false questions s at_once c h = events_on c h ≡ []
 
--- Some history left the connections. In it each chosen connection is asked over a link of its own, in order or at
+-- Some history left the connections. In it each chosen connection is asked as its host's claims say, in order or at
 -- once, and is Closed or Failed; the others have no events.
 pub record IsAskedOver
-    (IsOwn : ℕ → KnownOctets → Type 0) (questions : List Question) (s : MetaSettings) (at_once : Bool)
+    (claims : ℕ → HostClaims) (questions : List Question) (s : MetaSettings) (at_once : Bool)
     (chosen : ℕ → Bool) (meta : MetaLinks)
     : Type 0 where
   pub history : History
   pub after : MetaAfter questions s history meta
-  pub each : (c : ℕ) → c < length questions → IsConnectionAskedIf (IsOwn c) (chosen c) questions s at_once c history
+  pub each : (c : ℕ) → c < length questions → IsConnectionAskedIf (claims c) (chosen c) questions s at_once c history
 
--- Nothing is known of the links.
-abbrev pub IsAnyLink : KnownOctets → Type 0
-IsAnyLink came = Unit {0}
+-- Nothing is known of the host.
+abbrev pub any_host : HostClaims
+any_host = record { IsOwn = λ came. Unit {0}; IsUnreached = Unit {0}; IsFaulty = Unit {0} }
 
 -- Each chosen connection is asked, over some link.
 abbrev pub IsAsked : List Question → MetaSettings → Bool → (ℕ → Bool) → MetaLinks → Type 0
-IsAsked questions s at_once chosen meta = IsAskedOver (λ c. IsAnyLink) questions s at_once chosen meta
+IsAsked questions s at_once chosen meta = IsAskedOver (λ c. any_host) questions s at_once chosen meta

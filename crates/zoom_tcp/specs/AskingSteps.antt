@@ -6,9 +6,17 @@ use Rattle.zoom_questions.specs.declared.question.MetaSettings.{MetaSettings}
 use Rattle.zoom_pool.specs.History.{History, events_on}
 use Rattle.zoom_pool.specs.Metas.{MetaLinks, MetaAfter}
 use Rattle.zoom_io.specs.TalkTraces.{IsStoppedAt}
-use Rattle.zoom_tcp.specs.Asking.{KnownOctets, link_at, Opening, WholeTalkIf, IsConnectionAskedIf}
+use Rattle.zoom_tcp.specs.Asking.{KnownOctets, HostClaims, link_at, Opening, WholeTalkIf, IsConnectionAskedIf}
 
 -- ---- one connection
+
+-- What is said of a host if this is its link, or if it has none.
+abbrev pub only_link : Option KnownOctets → HostClaims
+only_link link = record { IsOwn = λ came. link ≡ Some came; IsUnreached = link ≡ None; IsFaulty = ⊥ }
+
+-- What is said of a host over whose link these octets come.
+abbrev pub link_over : KnownOctets → HostClaims
+link_over came = record { IsOwn = λ z. z ≡ came; IsUnreached = ⊥; IsFaulty = ⊥ }
 
 -- The link over which these octets come, if the connection was opened.
 abbrev pub link_when : Bool → KnownOctets → Option KnownOctets
@@ -17,58 +25,58 @@ link_when false came = None
 
 -- After a history, the connection was opened, and has this link.
 pub record OpenedConnection
-    (IsOwn : KnownOctets → Type 0) (questions : List Question) (s : MetaSettings) (c : ℕ) (h : History)
+    (host : HostClaims) (questions : List Question) (s : MetaSettings) (c : ℕ) (h : History)
     (link : Option KnownOctets) (new : MetaLinks)
     : Type 0 where
   pub more : History
-  pub opening : Opening IsOwn questions s c h more link
+  pub opening : Opening host questions s c h more link
   pub after : MetaAfter questions s (more ++ h) new
 
 -- What opening a connection to a host does, after every history.
-pub record AfterOpen (IsOwn : KnownOctets → Type 0) (c : ℕ) (link : Option KnownOctets) (old new : MetaLinks)
-    : Type 0 where
+pub record AfterOpen (host : HostClaims) (c : ℕ) (link : Option KnownOctets) (old new : MetaLinks) : Type 0 where
   pub on : (questions : List Question) (s : MetaSettings) (h : History)
-      → MetaAfter questions s h old → OpenedConnection IsOwn questions s c h link new
+      → MetaAfter questions s h old → OpenedConnection host questions s c h link new
 
 -- It is opened if it is chosen; otherwise nothing changes.
 abbrev pub AfterOpenIf
-    : (KnownOctets → Type 0) → Bool → ℕ → Option KnownOctets → MetaLinks → MetaLinks → Type 0
-AfterOpenIf IsOwn true c link old new = AfterOpen IsOwn c link old new
-AfterOpenIf IsOwn false c link old new = (link ≡ None) × (new ≡ old)
+    : HostClaims → Bool → ℕ → Option KnownOctets → MetaLinks → MetaLinks → Type 0
+AfterOpenIf host true c link old new = AfterOpen host c link old new
+AfterOpenIf host false c link old new = (link ≡ None) × (new ≡ old)
 
 -- After a history, the host was talked with if there is a link, and its connection is Closed or Failed.
 pub record FinishedTalk
-    (questions : List Question) (s : MetaSettings) (c : ℕ) (h : History) (link : Option KnownOctets) (new : MetaLinks)
+    (IsFaulty : Type 0) (questions : List Question) (s : MetaSettings) (c : ℕ) (h : History)
+    (link : Option KnownOctets) (new : MetaLinks)
     : Type 0 where
   pub more : History
-  pub talked : WholeTalkIf questions s false c h link more
+  pub talked : WholeTalkIf IsFaulty questions s false c h link more
   pub after : MetaAfter questions s (more ++ h) new
   pub over : is_some link ≡ true → IsStoppedAt s c (more ++ h)
 
 -- What talking with a host does, after every history.
-pub record AfterTalkOn (c : ℕ) (link : Option KnownOctets) (old new : MetaLinks) : Type 0 where
+pub record AfterTalkOn (IsFaulty : Type 0) (c : ℕ) (link : Option KnownOctets) (old new : MetaLinks) : Type 0 where
   pub on : (questions : List Question) (s : MetaSettings) (h : History)
-      → MetaAfter questions s h old → FinishedTalk questions s c h link new
+      → MetaAfter questions s h old → FinishedTalk IsFaulty questions s c h link new
 
 -- ---- among the events of the others
 
 -- The connection was opened, has this link, and has no other events.
 pub record IsOpened
-    (IsOwn : KnownOctets → Type 0) (questions : List Question) (s : MetaSettings) (c : ℕ) (link : Option KnownOctets)
+    (host : HostClaims) (questions : List Question) (s : MetaSettings) (c : ℕ) (link : Option KnownOctets)
     (h : History)
     : Type 0 where
   pub more : History
-  pub opening : Opening IsOwn questions s c [] more link
+  pub opening : Opening host questions s c [] more link
   pub mine : events_on c h ≡ events_on c more
 
 -- A chosen connection is opened; another has no link and no events.
 abbrev pub IsOpenedIf
-    : (KnownOctets → Type 0) → Bool → List Question → MetaSettings → ℕ → Option KnownOctets → History → Type 0
-IsOpenedIf IsOwn true questions s c link h = IsOpened IsOwn questions s c link h
-IsOpenedIf IsOwn false questions s c link h = (link ≡ None) × (events_on c h ≡ [])
+    : HostClaims → Bool → List Question → MetaSettings → ℕ → Option KnownOctets → History → Type 0
+IsOpenedIf host true questions s c link h = IsOpened host questions s c link h
+IsOpenedIf host false questions s c link h = (link ≡ None) × (events_on c h ≡ [])
 
--- The links of connections, the octets that come over each, and which links are a connection's own.
-module _ {A : Type 0} (links : List (Option A)) (octets : A → KnownOctets) (IsOwn : ℕ → KnownOctets → Type 0) where
+-- The links of connections, the octets that come over each, and what is said of each host.
+module _ {A : Type 0} (links : List (Option A)) (octets : A → KnownOctets) (claims : ℕ → HostClaims) where
   -- The first connections that are chosen were opened, as many as there are entries, and have these links. All other
   -- connections have no events.
   pub record AreOpened (questions : List Question) (s : MetaSettings) (chosen : ℕ → Bool) (new : MetaLinks)
@@ -76,7 +84,7 @@ module _ {A : Type 0} (links : List (Option A)) (octets : A → KnownOctets) (Is
     pub history : History
     pub after : MetaAfter questions s history new
     pub opened : (c : ℕ) → c < length links
-        → IsOpenedIf (IsOwn c) (chosen c) questions s c (link_at links octets c) history
+        → IsOpenedIf (claims c) (chosen c) questions s c (link_at links octets c) history
     pub others : (c : ℕ) → length links ≤ c → events_on c history ≡ []
 
   -- What opening all connections does, when there are no events yet.
@@ -90,9 +98,9 @@ module _ {A : Type 0} (links : List (Option A)) (octets : A → KnownOctets) (Is
       : Type 0 where
     pub history : History
     pub after : MetaAfter questions s history new
-    pub talked : (c : ℕ) → c < n → IsConnectionAskedIf (IsOwn c) (chosen c) questions s false c history
+    pub talked : (c : ℕ) → c < n → IsConnectionAskedIf (claims c) (chosen c) questions s false c history
     pub opened : (c : ℕ) → n ≤ c → c < length links
-        → IsOpenedIf (IsOwn c) (chosen c) questions s c (link_at links octets c) history
+        → IsOpenedIf (claims c) (chosen c) questions s c (link_at links octets c) history
 
   -- What talking with the first n hosts does, after their connections were opened.
   pub record AfterTalkAll (n : ℕ) (old new : MetaLinks) : Type 0 where

@@ -1,43 +1,109 @@
 -- Attempts to connect to hosts.
-use Rattle.std.specs.Prelude.{◌≡◌, ℕ, ◌<◌, List, length, Option, None, Some}
+use Rattle.std.specs.Prelude.{◌≡◌, ◌⊎◌, Bool, true, ℕ, ◌<◌, List, [], length, Option, None, Some, IsUtf8}
 use Rattle.std.specs.declared.time.Duration.{Duration}
 use Rattle.std.specs.Duration.{as_nanos}
 use Rattle.zoom_io.specs.TalksAmong.{halves_at}
-use Rattle.zoom_tcp.specs.HostLinks.{IsSocketTo}
+use Rattle.zoom_tcp.specs.SocketFacts.{SocketFacts}
+use Rattle.zoom_tcp.specs.Asking.{HostClaims}
+use Rattle.zoom_tcp.specs.HostLinks.{IsTried, IsSocketTo, IsOwnLink}
+use Rattle.zoom_tcp.specs.Silence.{IsOver, IsTotalOver, HasReadFault}
+use Rattle.zoom_tcp.specs.declared.limits.Limits.{Limits}
 use Rattle.zoom_tcp.specs.declared.connecting.AttemptStage.{AttemptStage}
 use Rattle.zoom_tcp.specs.declared.connecting.AttemptStage.TheVariants as stages
 
--- The attempt is out before its time is over.
-abbrev pub IsEarly : {Socket : Type 0} → Duration → Duration → AttemptStage Socket → Type 0
-IsEarly now deadline stages.Out = as_nanos now < as_nanos deadline
-IsEarly now deadline _ = ⊥
-
 -- The socket that is tried, if there is one, is connected.
 abbrev pub IsSettled : {Socket : Type 0} → (Socket → Type 0) → AttemptStage Socket → Type 0
-IsSettled IsConnected (stages.Pending socket until) = IsConnected socket
+IsSettled IsConnected (stages.Pending socket since share) = IsConnected socket
 IsSettled IsConnected _ = Unit {0}
+
+-- An attempt that has ended.
+abbrev pub HasEnded : {Socket : Type 0} → AttemptStage Socket → Type 0
+HasEnded (stages.Connected socket) = Unit {0}
+HasEnded stages.Out = Unit {0}
+HasEnded _ = ⊥
+
+-- An attempt that has begun.
+abbrev pub HasBegun : {Socket : Type 0} → AttemptStage Socket → Type 0
+HasBegun stages.Idle = ⊥
+HasBegun _ = Unit {0}
 
 -- ---- one attempt
 
--- Which addresses were found for a name, what came of beginning to connect to an address, and which sockets are
--- connected.
-module _ {Address Socket : Type 0} (AreFound : List ℕ → List Address → Type 0)
-    (IsOpening : Address → Option Socket → Type 0) (IsConnected : Socket → Type 0) where
-  -- How far an attempt at these addresses has come: its socket was opened for one of them.
-  abbrev pub IsAtStage : List Address → AttemptStage Socket → Type 0
-  IsAtStage addresses (stages.Pending socket until) = IsSocketTo AreFound IsOpening addresses socket
-  IsAtStage addresses (stages.Connected socket) =
-      IsSocketTo AreFound IsOpening addresses socket × IsConnected socket
-  IsAtStage addresses stages.Out = Unit {0}
+-- What the calls of the sockets gave.
+module _ {Address Socket : Type 0} (facts : SocketFacts Address Socket) where
+  -- The clock gave this time, or the clock failed.
+  abbrev pub IsSeen : Duration → Type 0
+  IsSeen time = facts.IsMoment time ⊎ facts.HasNoClock
 
-  -- An attempt at the addresses that were found for a name, or at none.
-  pub record IsAttempt (name : List ℕ) (addresses : List Address) (stage : AttemptStage Socket) : Type 0 where
-    pub found : 0 < length addresses → AreFound name addresses
-    pub stands : IsAtStage addresses stage
+  -- The addresses that were found for a name. There are none if the name is not a text.
+  abbrev pub AreAddressesOf : List ℕ → List Address → Type 0
+  AreAddressesOf name addresses = facts.AreFound name addresses ⊎ ((IsUtf8 name → ⊥) × (addresses ≡ []))
 
-  -- It stays an attempt at the addresses of its name.
-  abbrev pub AttemptStep : List Address → AttemptStage Socket → List Address → AttemptStage Socket → Type 0
-  AttemptStep old before new after = (name : List ℕ) → IsAttempt name old before → IsAttempt name new after
+  -- Connecting to the address in this place failed: it gave no socket; the host refused; or it did not answer, and time
+  -- passed.
+  pub data IsFailed (addresses : List Address) (place : ℕ) : Type 0 where
+    no_socket : IsTried facts.IsOpening addresses place None → IsFailed addresses place
+    refused : (socket : Socket) → IsTried facts.IsOpening addresses place (Some socket) → facts.IsRefused socket
+        → IsFailed addresses place
+    late : (socket : Socket) → IsTried facts.IsOpening addresses place (Some socket) → (since now : Duration)
+        → IsSeen since → IsSeen now → as_nanos since < as_nanos now → IsFailed addresses place
+
+  -- That is so of each of the first n addresses.
+  abbrev pub AreFailedBelow : List Address → ℕ → Type 0
+  AreFailedBelow addresses n = (i : ℕ) → i < n → IsFailed addresses i
+
+-- The same, with the limits, when everything began, and whether hosts are asked at once.
+module _ {Address Socket : Type 0} (facts : SocketFacts Address Socket) (limits : Limits) (begun : Duration)
+    (at_once : Bool) where
+  -- A socket was given up. If hosts are asked in order, it was idle or refused when it was last looked at.
+  abbrev pub IsLeft : Socket → Type 0
+  IsLeft socket = facts.IsGivenUp socket × ((at_once ≡ true) ⊎ facts.IsIdle socket ⊎ facts.IsRefused socket)
+
+  -- Why no host of a name was reached. The name is not a text; connecting to each address that was found for it
+  -- failed; the clock failed; the time for connecting or for everything is over, by times that the clock gave; or a
+  -- socket to one of the addresses was given up.
+  pub data IsUnreached (name : List ℕ) : Type 0 where
+    no_text : (IsUtf8 name → ⊥) → IsUnreached name
+    all_failed : (addresses : List Address) → facts.AreFound name addresses
+        → AreFailedBelow facts addresses (length addresses) → IsUnreached name
+    no_clock : facts.HasNoClock → IsUnreached name
+    no_answer : (started now : Duration) → facts.IsMoment started → facts.IsMoment now
+        → IsOver started now limits.patience → IsUnreached name
+    total_over : (now : Duration) → facts.IsMoment now → IsTotalOver limits begun now → IsUnreached name
+    given_up : (addresses : List Address) → facts.AreFound name addresses → (socket : Socket)
+        → IsSocketTo facts addresses socket → IsLeft socket → IsUnreached name
+
+  -- How far an attempt has come: the address in this place gave the socket that is tried, at a time that was seen; one
+  -- of the addresses gave the socket that is connected; or no host was reached.
+  abbrev pub IsAtStage : List ℕ → List Address → ℕ → AttemptStage Socket → Type 0
+  IsAtStage name addresses place stages.Idle = Unit {0}
+  IsAtStage name addresses place (stages.Pending socket since share) =
+      IsTried facts.IsOpening addresses place (Some socket) × IsSeen facts since × (0 < as_nanos share)
+  IsAtStage name addresses place (stages.Connected socket) =
+      IsSocketTo facts addresses socket × facts.IsConnected socket
+  IsAtStage name addresses place stages.Out = IsUnreached name
+
+  -- An attempt at the addresses of a name. Connecting to those before this place failed.
+  pub record IsAttempt
+      (name : List ℕ) (addresses : List Address) (place : ℕ) (started : Duration) (stage : AttemptStage Socket)
+      : Type 0 where
+    pub named : AreAddressesOf facts name addresses
+    pub tries : AreFailedBelow facts addresses place
+    pub start : IsSeen facts started
+    pub stands : IsAtStage name addresses place stage
+
+  -- There is such a reason for a connection's own name, which it has.
+  abbrev pub IsOwnUnreached : Option (List ℕ) → Type 0
+  IsOwnUnreached None = ⊥
+  IsOwnUnreached (Some name) = IsUnreached name
+
+  -- What is said of asking the host of a connection's own name.
+  abbrev pub claims_of : Option (List ℕ) → HostClaims
+  claims_of name = record {
+    IsOwn = IsOwnLink facts name;
+    IsUnreached = IsOwnUnreached name;
+    IsFaulty = HasReadFault facts limits begun;
+  }
 
 -- ---- an attempt for each entry
 
@@ -58,3 +124,9 @@ AreAttempts names attempts IsFor = (c : ℕ) → IsFitIf (names c) (halves_at at
 -- Attempts that each fit the name of their own question before do so after.
 abbrev pub AttemptsStep : {E : Type 0} → List (Option E) → List (Option E) → (List ℕ → E → Type 0) → Type 0
 AttemptsStep old new IsFor = (names : ℕ → Option (List ℕ)) → AreAttempts names old IsFor → AreAttempts names new IsFor
+
+-- The link to the host of a name, if there is one, or why there is none.
+abbrev pub IsLinkFor : {L : Type 0} → Option (List ℕ) → Option L → (List ℕ → L → Type 0) → (List ℕ → Type 0) → Type 0
+IsLinkFor (Some name) (Some link) IsFor IsNone = IsFor name link
+IsLinkFor (Some name) None IsFor IsNone = IsNone name
+IsLinkFor None _ IsFor IsNone = Unit {0}

@@ -12,8 +12,8 @@ use Rattle.zoom_io.specs.TalksAmong.{View, view_of, OngoingTalkAmong, IsDoneAmon
 use Rattle.zoom_tcp.specs.declared.host_talks.HostTalk.{HostTalk}
 use Rattle.zoom_tcp.specs.declared.host_talks.HostTalk.TheVariants as talks
 use Rattle.zoom_tcp.specs.declared.host_talks.Reached.{Reached}
-use Rattle.zoom_tcp.specs.declared.host_talks.Reached.TheVariants.{Link}
-use Rattle.zoom_tcp.specs.Asking.{KnownOctets}
+use Rattle.zoom_tcp.specs.declared.host_talks.Reached.TheVariants.{Link, Never, NotYet}
+use Rattle.zoom_tcp.specs.Asking.{KnownOctets, HostClaims}
 use Rattle.zoom_tcp.specs.AskingSteps.{IsOpened, IsOpenedIf, AfterOpen}
 
 -- How far asking a host has come, as contracts see it.
@@ -35,9 +35,10 @@ view_if view None = None
 view_if view (Some x) = Some (view x)
 
 -- If the host was reached, the octets that come over the link are those of a link of its own.
-abbrev pub IsReachedOver : {R W : Type 0} → (R → DeviceState) → (KnownOctets → Type 0) → Reached R W → Type 0
-IsReachedOver state IsOwn (Link source sink) = IsOwn (state source).octets
-IsReachedOver state IsOwn _ = Unit {0}
+abbrev pub IsReachedOver : {R W : Type 0} → (R → DeviceState) → HostClaims → Reached R W → Type 0
+IsReachedOver state host (Link source sink) = host.IsOwn (state source).octets
+IsReachedOver state host Never = host.IsUnreached
+IsReachedOver state host NotYet = Unit {0}
 
 -- ---- one host
 
@@ -52,12 +53,12 @@ IsTalkAt phases.Over q s c h now n first last =
 
 -- The host was reached over a link of its own, and the talk that began then is as its phase says.
 pub record IsTalkedWith
-    (IsOwn : KnownOctets → Type 0) (q : List Question) (s : MetaSettings) (c : ℕ) (now : History) (n : ℕ)
+    (host : HostClaims) (q : List Question) (s : MetaSettings) (c : ℕ) (now : History) (n : ℕ)
     (last : View)
     : Type 0 where
   pub h : History
   pub first : View
-  pub opened : IsOpened IsOwn q s c (Some first.source.octets) h
+  pub opened : IsOpened host q s c (Some first.source.octets) h
   pub talk : IsTalkAt last.phase q s c h now n first last
 
 -- Nothing more happens with the host.
@@ -79,19 +80,19 @@ link_of _ = None
 
 -- What looking at an attempt did: nothing; or the connection was opened, and a talk begins if the host was reached.
 abbrev pub IsBegun
-    : {A : Type 0} → (KnownOctets → Type 0) → ℕ → Option (HostView A) → MetaLinks → MetaLinks → Type 0
-IsBegun IsOwn c None old new = new ≡ old
-IsBegun IsOwn c (Some view) old new = AfterOpen IsOwn c (link_of view) old new × IsNew view
+    : {A : Type 0} → HostClaims → ℕ → Option (HostView A) → MetaLinks → MetaLinks → Type 0
+IsBegun host c None old new = new ≡ old
+IsBegun host c (Some view) old new = AfterOpen host c (link_of view) old new × IsNew view
 
--- For each name, `host:port`: which attempts are at its host, and which octets come over a link to its host.
-module _ {A : Type 0} (IsFor : List ℕ → A → Type 0) (IsOwn : List ℕ → KnownOctets → Type 0) where
+-- For each name, `host:port`: which attempts are at its host, and what is said of its host.
+module _ {A : Type 0} (IsFor : List ℕ → A → Type 0) (claims : List ℕ → HostClaims) where
   -- What the events of a connection with this name are, by how far asking its host has come.
   abbrev pub IsHostAt
       : List ℕ → Bool → List Question → MetaSettings → ℕ → History → ℕ → HostView A → Type 0
-  IsHostAt name chosen q s c now n Out = IsOpenedIf (IsOwn name) chosen q s c None now
+  IsHostAt name chosen q s c now n Out = IsOpenedIf (claims name) chosen q s c None now
   IsHostAt name chosen q s c now n (Connecting attempt) =
       (chosen ≡ true) × (events_on c now ≡ []) × IsFor name attempt
-  IsHostAt name chosen q s c now n (Talking last) = (chosen ≡ true) × IsTalkedWith (IsOwn name) q s c now n last
+  IsHostAt name chosen q s c now n (Talking last) = (chosen ≡ true) × IsTalkedWith (claims name) q s c now n last
 
   -- A step of a connection, after which the others have no new events.
   pub record AfterHostStep

@@ -1,3 +1,4 @@
+pub mod SocketFacts
 pub mod HostLinks
 pub mod Connecting
 pub mod Asking

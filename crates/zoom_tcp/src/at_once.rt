@@ -1,9 +1,10 @@
 //! Asks hosts at once, without threads.
 ghost use Rattle.std.specs.Prelude.{◌≡◌, ◌<◌, ◌^◌, true, length, IfOk};
+ghost use Rattle.std.specs.declared.time.Duration.{Duration};
 ghost use Rattle.zoom_questions.specs.Askable.{AreFit, AreAskable};
 ghost use Rattle.zoom_io.specs.TalksAmong.{halves_at};
 ghost use Rattle.zoom_tcp.specs.Asking.{is_present, IsAsked, IsAskedOver};
-ghost use Rattle.zoom_tcp.specs.HostLinks.{IsOwnLink};
+ghost use Rattle.zoom_tcp.specs.Connecting.{IsSeen, claims_of};
 ghost use Rattle.zoom_tcp.specs.HostTalks.{IsFirstOf, AreAllBegun};
 
 use crate::connecting::{Attempt, begin_attempts};
@@ -13,10 +14,12 @@ use crate::limits::Limits;
 use crate::network::Network;
 use crate::sockets::Sockets;
 use crate::tcp_sockets::TcpSockets;
+use crate::times::{Limited, Times};
 use bytes::Bytes;
 use std::alloc::{AllocError, Global};
+use std::marker::Brand;
 use std::net::Net;
-use std::time::Clock;
+use std::time::{Clock, Duration};
 use zber::Seq;
 use zoom_io::Watch;
 use zoom_pool::{Meta, MetaSettings, Question};
@@ -55,6 +58,10 @@ pub fn ask_at_once<N: Net + Clock, V: Watch>(
 /// Does what `ask_at_once` does, over the sockets of a network. Each connection is talked with over a link of its own:
 /// its socket was opened for one of the addresses that were found for its name, and is connected. The octets that came
 /// over it first are those that were read.
+///
+/// A connection is stopped for `Connect` only if each address of its name was tried, or the time for it was over, or
+/// the clock failed (`IsUnreached`). It is stopped for `Read` only if its host was silent for as long as the patience,
+/// or the total was over, or the clock or a socket failed (`ReadFault`).
 pub fn ask_at_once_over<S: Sockets, V: Watch>(
     alloc: Global,
     network: &Network<S>,
@@ -68,12 +75,44 @@ pub fn ask_at_once_over<S: Sockets, V: Watch>(
     requires askable { AreAskable questions.items }
     requires fit { AreFit settings }
     requires equal { length addresses.now ≡ length questions.items }
-    ensures asked { IfOk result (λ meta. IsAskedOver
-        (λ c. IsOwnLink S.AreFound S.IsOpening S.IsConnected S.octets (halves_at addresses.now c))
+    ensures asked { IfOk result (λ meta. (begun : Duration) × IsSeen S.facts begun × IsAskedOver
+        (λ c. claims_of S.facts limits begun true (halves_at addresses.now c))
         questions.items settings true (is_present addresses.now) meta) }
 {
+    let begun = network.time_or(Duration::ZERO);
+    ask_at_once_since::<S, Brand, V>(
+        alloc, network, questions, settings, addresses, limits, begun, watch,
+    )
+}
+
+/// Does what `ask_at_once_over` does, within limits of which the time for everything began at `begun`.
+fn ask_at_once_since<S: Sockets, K: Limited, V: Watch>(
+    alloc: Global,
+    network: &Network<S>,
+    questions: Vec<Question>,
+    settings: MetaSettings,
+    addresses: &[Option<Bytes>],
+    limits: Limits,
+    begun: Duration,
+    watch: &mut V,
+) -> Result<Meta, AllocError>
+    // the times
+    requires limits { limits ≡ K.limits }
+    requires begun { begun ≡ K.begun }
+    requires mode { K.at_once ≡ true }
+    requires seen { IsSeen S.facts begun }
+    // the questions
+    requires some { length questions.items < 2 ^ 32 }
+    requires askable { AreAskable questions.items }
+    requires fit { AreFit settings }
+    requires equal { length addresses.now ≡ length questions.items }
+    ensures asked { IfOk result (λ meta. IsAskedOver
+        (λ c. claims_of S.facts K.limits K.begun K.at_once (halves_at addresses.now c))
+        questions.items settings true (is_present addresses.now) meta) }
+{
+    let times = Times::<K>::new(limits, begun);
     let mut meta = Meta::new(alloc, Seq::from_vec(questions), settings)?;
-    let attempts = begin_attempts(alloc, network, addresses, limits)?;
+    let attempts = begin_attempts(alloc, network, addresses, &times)?;
     let mut talks = talks_of(alloc, attempts)?;
     let talked = talk_with_all(alloc, &mut meta, &mut talks, watch);
     drop(talks);
@@ -82,13 +121,13 @@ pub fn ask_at_once_over<S: Sockets, V: Watch>(
 }
 
 /// Asking one host over sockets.
-type SocketTalk<'a, S> = HostTalk<Attempt<'a, S>, HostSource<'a, S>, HostSink<'a, S>>;
+type SocketTalk<'a, S, K> = HostTalk<Attempt<'a, S, K>, HostSource<'a, S, K>, HostSink<'a, S, K>>;
 
 /// A host that is being connected to by each attempt, and no host for each other entry.
-fn talks_of<'a, S: Sockets>(
+fn talks_of<'a, S: Sockets, K: Limited>(
     alloc: Global,
-    attempts: Vec<Option<Attempt<'a, S>>>,
-) -> Result<Vec<SocketTalk<'a, S>>, AllocError>
+    attempts: Vec<Option<Attempt<'a, S, K>>>,
+) -> Result<Vec<SocketTalk<'a, S, K>>, AllocError>
     ensures begun { IfOk result (λ talks. AreAllBegun attempts.entry.items talks.items) }
     ensures size { IfOk result (λ talks. length talks.items ≡ length attempts.entry.items) }
 {
@@ -100,7 +139,7 @@ fn talks_of<'a, S: Sockets>(
 }
 
 /// A host that is being connected to by the attempt, if there is one.
-fn talk_of<'a, S: Sockets>(attempt: Option<Attempt<'a, S>>) -> SocketTalk<'a, S>
+fn talk_of<'a, S: Sockets, K: Limited>(attempt: Option<Attempt<'a, S, K>>) -> SocketTalk<'a, S, K>
     ensures { IsFirstOf attempt.entry result }
 {
     match attempt {

@@ -1,14 +1,16 @@
 //! A link to a host: a source and a sink over one socket, with time limits.
-ghost use Rattle.std.specs.Prelude.{◌≡◌, ◌-◌, ◌<◌, None, length, IfOk, IfSome, OnOk, IsErr};
+ghost use Rattle.std.specs.Prelude.{◌≡◌, ◌-◌, ◌<◌, None, length, IfOk, IfSome, OnOk, OnErr, IsErr};
+ghost use Rattle.std.specs.Option.{ForSome};
 ghost use Rattle.std.specs.Duration.{as_nanos};
-ghost use Rattle.std.specs.Io.{WritesAtMost};
-ghost use Rattle.zoom_io.specs.Devices.{IsBoundedPoll, IsCounted, AfterPoll, polls_after};
+ghost use Rattle.std.specs.Io.{ReadsAtMost, WritesAtMost};
+ghost use Rattle.zoom_io.specs.Devices.{IsBoundedPoll, IsCounted, AfterRead, AfterPoll, polls_after};
 ghost use Rattle.zoom_tcp.specs.HostLinks.{IsPolled};
-ghost use Rattle.zoom_tcp.specs.Silence.{IsWithin, IsInTime, IfNotYet};
+ghost use Rattle.zoom_tcp.specs.Silence.{IsWithin, IsInTime, IfNotYet, HasReadFault};
 
-use crate::limits::{Limits, left_of};
+use crate::limits::left_of;
 use crate::network::{Network, Poller};
 use crate::sockets::{Sockets, Transfer};
+use crate::times::{Limited, Times};
 use std::alloc::AllocError;
 use std::rc::Rc;
 use std::time::Duration;
@@ -16,21 +18,20 @@ use zoom_io::{Failed, NonBlocking, Sink, Source};
 
 /// A socket to a host, with time limits.
 #[derive(Drop)]
-struct TimedSocket<'a, S: Sockets> {
+struct TimedSocket<'a, S: Sockets, K: Limited> {
     network: &'a Network<S>,
     socket: Rc<S::Socket>,
     token: usize,
-    limits: Limits,
-    begun: Duration,
+    times: Times<K>,
 }
 
 /// The source of a link. A read waits until octets come, and a poll need not.
 ///
-/// It fails if the socket does, if no octets came for as long as the patience, or if the time for everything is over.
-/// From then on each call fails.
+/// It fails if the socket or the clock does, if no octets came for as long as the patience, or if the time for
+/// everything is over. From then on each call fails.
 #[derive(Drop)]
-pub struct HostSource<'a, S: Sockets> {
-    timed: TimedSocket<'a, S>,
+pub struct HostSource<'a, S: Sockets, K: Limited> {
+    timed: TimedSocket<'a, S, K>,
     cursor: S::Cursor,
     /// When octets came last, or when it was first polled.
     came_at: Option<Duration>,
@@ -38,51 +39,51 @@ pub struct HostSource<'a, S: Sockets> {
     looked: u64,
     failures: u64,
     polls: u64,
+    ghost heard: { ForSome came_at (λ came. ∥ S.facts.IsMoment came ∥₁) },
+    ghost fault: { 0 < failures → HasReadFault S.facts K.limits K.begun },
 }
 
 /// The sink of a link. A write never waits: what the host does not take now, later polls of the source write.
 ///
 /// It fails if the socket does, or if no memory is found for what has to wait. From then on each call fails.
 #[derive(Drop)]
-pub struct HostSink<'a, S: Sockets> {
-    timed: TimedSocket<'a, S>,
+pub struct HostSink<'a, S: Sockets, K: Limited> {
+    timed: TimedSocket<'a, S, K>,
     failures: u64,
 }
 
 /// A link to a host. The socket is closed when both halves are dropped.
 #[derive(Drop)]
-pub struct HostLink<'a, S: Sockets> {
+pub struct HostLink<'a, S: Sockets, K: Limited> {
     /// The source that octets are read from.
-    pub source: HostSource<'a, S>,
+    pub source: HostSource<'a, S, K>,
     /// The sink that octets are written to.
-    pub sink: HostSink<'a, S>,
+    pub sink: HostSink<'a, S, K>,
 }
 
-impl<'a, S: Sockets> TimedSocket<'a, S> {
+impl<'a, S: Sockets, K: Limited> TimedSocket<'a, S, K> {
     /// The time, or an error if the time for everything is over or the clock fails.
-    fn now(&self, poller: &Poller<S>) -> Result<Duration, Failed>
-        ensures seen { IfOk result S.IsMoment }
-        ensures early { IfOk result (λ now. IfSome self.now.limits.total (IsWithin self.now.begun now)) }
+    fn now(&self) -> Result<Duration, Failed>
+        ensures seen { IfOk result S.facts.IsMoment }
+        ensures early { IfOk result (λ now. IfSome K.limits.total (IsWithin K.begun now)) }
+        ensures fault { OnErr result (HasReadFault S.facts K.limits K.begun) }
     {
-        let Some(now) = poller.sockets.now() else {
+        let Some(now) = self.network.sockets.now() else {
             return Err(Failed);
         };
-        if self.total_left(now).is_zero() {
+        if self.times.is_total_over(now) {
             return Err(Failed);
         }
         Ok(now)
     }
 
     /// What is left of the time for everything.
-    fn total_left(&self, now: Duration) -> Duration
-        ensures { IfSome self.now.limits.total (λ total. as_nanos result
-            ≡ as_nanos total - (as_nanos now - as_nanos self.now.begun)) }
-    {
-        self.limits.total_left(self.begun, now)
+    fn total_left(&self, now: Duration) -> Duration {
+        self.times.limits.total_left(self.times.begun, now)
     }
 
     /// A link over this socket and a second handle of it. Neither half has a failed call yet.
-    fn link(self, cursor: S::Cursor, other: Rc<S::Socket>) -> HostLink<'a, S>
+    fn link(self, cursor: S::Cursor, other: Rc<S::Socket>) -> HostLink<'a, S, K>
         ensures sound { (result.source.failures ≡ 0) × (result.sink.failures ≡ 0) }
         ensures polls { result.source.polls ≡ 0 }
         ensures socket { result.source.timed.socket.value ≡ self.entry.socket.value }
@@ -93,8 +94,7 @@ impl<'a, S: Sockets> TimedSocket<'a, S> {
                 network: self.network,
                 socket: other,
                 token: self.token,
-                limits: self.limits,
-                begun: self.begun,
+                times: self.times.again(),
             },
             failures: 0,
         };
@@ -112,20 +112,18 @@ impl<'a, S: Sockets> TimedSocket<'a, S> {
     }
 }
 
-impl<'a, S: Sockets> HostLink<'a, S> {
-    /// A link over a connected socket. The time for everything began at `begun`, and neither half has a failed call
-    /// yet.
+impl<'a, S: Sockets, K: Limited> HostLink<'a, S, K> {
+    /// A link over a connected socket. Neither half has a failed call yet.
     pub(crate) fn new(
         network: &'a Network<S>,
         socket: Rc<S::Socket>,
         token: usize,
-        limits: Limits,
-        begun: Duration,
-    ) -> Result<HostLink<'a, S>, AllocError>
+        times: Times<K>,
+    ) -> Result<HostLink<'a, S, K>, AllocError>
         ensures sound { IfOk result (λ link. (link.source.failures ≡ 0) × (link.sink.failures ≡ 0)) }
         ensures polls { IfOk result (λ link. link.source.polls ≡ 0) }
         ensures octets { IfOk result (λ link. S.octets_left link.source.timed.socket.value link.source.cursor
-            ≡ S.octets socket.value) }
+            ≡ S.facts.octets socket.value) }
     {
         let cursor = S::first(&socket);
         let other = socket.clone()?;
@@ -133,14 +131,13 @@ impl<'a, S: Sockets> HostLink<'a, S> {
             network,
             socket,
             token,
-            limits,
-            begun,
+            times,
         };
         Ok(timed.link(cursor, other))
     }
 }
 
-impl<'a, S: Sockets> HostSource<'a, S> {
+impl<'a, S: Sockets, K: Limited> HostSource<'a, S, K> {
     /// Reads the octets that have come into the front of `piece`. Returns `None` if none have come yet. If `wait`
     /// holds, it first waits until octets come on any link of the network, for at most a quarter of a second.
     fn receive(&mut self, piece: &mut [u8], wait: bool) -> Result<Option<usize>, Failed>
@@ -157,8 +154,7 @@ impl<'a, S: Sockets> HostSource<'a, S> {
             result piece.new }
         ensures polls { self.new.polls ≡ polls_after self.old.polls result }
         ensures stays { 0 < self.old.failures → IsErr result }
-        ensures early { IfNotYet result
-            (IsInTime S.IsMoment self.new.timed.limits self.new.timed.begun self.new.came_at) }
+        ensures early { IfNotYet result (IsInTime S.facts.IsMoment K.limits K.begun self.new.came_at) }
     {
         match self.look(piece, wait) {
             Ok(Some(0)) => Ok(Some(0)),
@@ -183,31 +179,56 @@ impl<'a, S: Sockets> HostSource<'a, S> {
         // the counts
         ensures failures { self.new.failures ≡ self.old.failures }
         ensures polls { self.new.polls ≡ self.old.polls }
-        // after a failure, and if none have come yet
+        // after a failure, if it fails, and if none have come yet
         ensures stays { 0 < self.old.failures → IsErr result }
-        ensures early { IfNotYet result
-            (IsInTime S.IsMoment self.new.timed.limits self.new.timed.begun self.new.came_at) }
+        ensures fault { OnErr result (HasReadFault S.facts K.limits K.begun) }
+        ensures early { IfNotYet result (IsInTime S.facts.IsMoment K.limits K.begun self.new.came_at) }
     {
         if self.failures > 0 {
             return Err(Failed);
         }
         let network = self.timed.network;
-        let Ok(mut poller) = network.poller.try_borrow_mut() else {
-            return Err(Failed);
-        };
-        let poller = &mut *poller;
-        let now = self.timed.now(poller)?;
+        let mut poller = network.take_poller();
+        let looked = self.look_with(&mut poller, piece, wait);
+        network.put_poller(poller);
+        looked
+    }
+
+    /// Does what `look` does, by the network's poller.
+    fn look_with(
+        &mut self,
+        poller: &mut Poller,
+        piece: &mut [u8],
+        wait: bool,
+    ) -> Result<Option<usize>, Failed>
+        // the octets
+        ensures bound { IsBoundedPoll result piece.new }
+        ensures octets { IsPolled (S.octets_left self.old.timed.socket.value self.old.cursor)
+            (S.octets_left self.new.timed.socket.value self.new.cursor) result piece.new }
+        // the counts
+        ensures failures { self.new.failures ≡ self.old.failures }
+        ensures polls { self.new.polls ≡ self.old.polls }
+        // if it fails, and if none have come yet
+        ensures fault { OnErr result (HasReadFault S.facts K.limits K.begun) }
+        ensures early { IfNotYet result (IsInTime S.facts.IsMoment K.limits K.begun self.new.came_at) }
+    {
+        let network = self.timed.network;
+        let now = self.timed.now()?;
         self.came_at = Some(self.came_at.unwrap_or(now));
-        self.look_around(poller, now, wait);
-        poller.flush(self.timed.token, &self.timed.socket)?;
+        self.looked = self.look_around(poller, now, wait);
+        match poller.flush(&network.sockets, self.timed.token, &self.timed.socket) {
+            Ok(()) => {}
+            Err(_) => return Err(Failed),
+        }
         match poller.read(
+            &network.sockets,
             self.timed.token,
             &self.timed.socket,
             &mut self.cursor,
             piece,
         ) {
             Transfer::Octets(count) => {
-                self.came_at = Some(poller.sockets.now().unwrap_or(now));
+                self.came_at = Some(network.sockets.now().unwrap_or(now));
                 Ok(Some(count))
             }
             Transfer::NotYet => {
@@ -219,49 +240,81 @@ impl<'a, S: Sockets> HostSource<'a, S> {
     }
 
     /// Looks for reports if this socket is not readable. If `wait` holds, waits for any link. Otherwise it does not
-    /// wait, and it does not look if another link has looked since this one was last polled.
-    fn look_around(&mut self, poller: &mut Poller<S>, now: Duration, wait: bool)
-        ensures { self.new ≡ record self.old { looked = self.new.looked } }
-    {
+    /// wait, and it does not look if another link has looked since this one was last polled. Returns the count of the
+    /// network's looks, or of those at the last poll if it did not look.
+    fn look_around(&self, poller: &mut Poller, now: Duration, wait: bool) -> u64 {
+        let sockets = &self.timed.network.sockets;
         if poller.ready_of(self.timed.token).readable {
-            return;
+            return self.looked;
         }
         if wait {
             poller.note_deadline(self.deadline(now));
-            poller.wait_for_any(now);
+            poller.wait_for_any(sockets, now);
         } else if poller.looks == self.looked {
-            poller.wait(Duration::ZERO);
+            poller.wait(sockets, Duration::ZERO);
         }
-        self.looked = poller.looks;
+        poller.looks
     }
 
     /// Notes by when octets have to come. Fails if that time is over.
-    fn await_more(&self, poller: &mut Poller<S>) -> Result<(), Failed>
-        ensures { OnOk result (IsInTime S.IsMoment self.now.timed.limits self.now.timed.begun self.now.came_at) }
+    fn await_more(&self, poller: &mut Poller) -> Result<(), Failed>
+        ensures early { OnOk result (IsInTime S.facts.IsMoment K.limits K.begun self.now.came_at) }
+        ensures fault { OnErr result (HasReadFault S.facts K.limits K.begun) }
     {
-        let now = self.timed.now(poller)?;
-        if self.patience_left(now).is_zero() {
+        let now = self.timed.now()?;
+        if let Some(came) = self.came_at
+            && self.timed.times.is_patience_over(came, now)
+        {
             return Err(Failed);
         }
         poller.note_deadline(self.deadline(now));
         Ok(())
     }
 
-    /// What is left of the patience.
-    fn patience_left(&self, now: Duration) -> Duration
-        ensures { IfSome self.now.came_at (λ came. as_nanos result
-            ≡ as_nanos self.now.timed.limits.patience - (as_nanos now - as_nanos came)) }
-    {
-        left_of(self.timed.limits.patience, self.came_at.unwrap_or(now), now)
-    }
-
     /// The time by which octets have to come.
     fn deadline(&self, now: Duration) -> Duration {
-        now.saturating_add(self.patience_left(now).min(self.timed.total_left(now)))
+        let patience = self.timed.times.limits.patience;
+        let left = left_of(patience, self.came_at.unwrap_or(now), now);
+        now.saturating_add(left.min(self.timed.total_left(now)))
+    }
+
+    /// Reads for the last time, also if nothing was reported. Gives up the socket if no octets have come yet.
+    fn read_last(&mut self, piece: &mut [u8]) -> Result<usize, Failed>
+        ensures bound { ReadsAtMost result piece.new }
+        ensures reads { AfterRead
+            (record {
+              octets = S.octets_left self.old.timed.socket.value self.old.cursor;
+              failures = self.old.failures;
+            })
+            (record {
+              octets = S.octets_left self.new.timed.socket.value self.new.cursor;
+              failures = self.new.failures;
+            })
+            result piece.new }
+        ensures stays { 0 < self.old.failures → IsErr result }
+    {
+        if self.failures > 0 {
+            self.failures = self.failures.saturating_add(1);
+            return Err(Failed);
+        }
+        let sockets = &self.timed.network.sockets;
+        let socket: &S::Socket = &self.timed.socket;
+        match sockets.read(socket, &mut self.cursor, piece) {
+            Transfer::Octets(count) => Ok(count),
+            Transfer::NotYet => {
+                sockets.give_up(socket);
+                self.failures = self.failures.saturating_add(1);
+                Err(Failed)
+            }
+            Transfer::Failure => {
+                self.failures = self.failures.saturating_add(1);
+                Err(Failed)
+            }
+        }
     }
 }
 
-impl<'a, S: Sockets> HostSink<'a, S> {
+impl<'a, S: Sockets, K: Limited> HostSink<'a, S, K> {
     /// Writes a front of `piece` without waiting. What the host does not take now is written by later polls of the
     /// source.
     fn send(&mut self, piece: &[u8]) -> Result<usize, Failed>
@@ -288,14 +341,20 @@ impl<'a, S: Sockets> HostSink<'a, S> {
         if self.failures > 0 {
             return Err(Failed);
         }
-        let Ok(mut poller) = self.timed.network.poller.try_borrow_mut() else {
-            return Err(Failed);
-        };
-        poller.send(self.timed.token, &self.timed.socket, piece)
+        let network = self.timed.network;
+        let mut poller = network.take_poller();
+        let sent = poller.send(
+            &network.sockets,
+            self.timed.token,
+            &self.timed.socket,
+            piece,
+        );
+        network.put_poller(poller);
+        sent
     }
 }
 
-impl<'a, S: Sockets> NonBlocking for HostSource<'a, S> {
+impl<'a, S: Sockets, K: Limited> NonBlocking for HostSource<'a, S, K> {
     ghost state = { λ p. record { octets = S.octets_left p.timed.socket.value p.cursor; failures = p.failures } };
 
     ghost polls = { λ p. p.polls };
@@ -309,7 +368,7 @@ impl<'a, S: Sockets> NonBlocking for HostSource<'a, S> {
     }
 }
 
-impl<'a, S: Sockets> Source for HostSource<'a, S> {
+impl<'a, S: Sockets, K: Limited> Source for HostSource<'a, S, K> {
     ghost state = { λ p. record { octets = S.octets_left p.timed.socket.value p.cursor; failures = p.failures } };
 
     fn read(&mut self, piece: &mut [u8]) -> Result<usize, Failed> {
@@ -319,8 +378,7 @@ impl<'a, S: Sockets> Source for HostSource<'a, S> {
                 None => {}
             }
         }
-        self.failures = self.failures.saturating_add(1);
-        Err(Failed)
+        self.read_last(piece)
     }
 
     fn failures(&self) -> u64 {
@@ -328,7 +386,7 @@ impl<'a, S: Sockets> Source for HostSource<'a, S> {
     }
 }
 
-impl<'a, S: Sockets> Sink for HostSink<'a, S> {
+impl<'a, S: Sockets, K: Limited> Sink for HostSink<'a, S, K> {
     ghost state = { λ p. record { octets = None; failures = p.failures } };
 
     fn write(&mut self, piece: &[u8]) -> Result<usize, Failed> {

@@ -1,6 +1,6 @@
 //! Talks with hosts at once, while other hosts are still being connected to.
 ghost use Rattle.std.specs.Prelude.{◌≡◌, ◌<◌, ◌≤◌, ◌^◌, ℕ, ◌+◌, List, length, IfOk, OnOk};
-ghost use Rattle.zoom_tcp.specs.Asking.{KnownOctets};
+ghost use Rattle.zoom_tcp.specs.Asking.{HostClaims};
 ghost use Rattle.zoom_tcp.specs.AskingSteps.{AfterOpen};
 ghost use Rattle.zoom_tcp.specs.HostTalks.{host_view, view_if, IsReachedOver, HostStep, HostsStep, AfterRoundOfHosts, AreHostsOver, IsHostOver, IsBegun};
 
@@ -28,14 +28,22 @@ pub(crate) trait Reach<R: NonBlocking, W> {
     /// It is an attempt at the host of this name, `host:port`.
     ghost IsFor: { List ℕ → Self → Type 0 };
 
-    /// These are all octets that come over a link to the host of this name.
-    ghost IsOwn: { List ℕ → KnownOctets → Type 0 };
+    /// What is said of asking the host of this name.
+    ghost claims: { List ℕ → HostClaims };
 
     /// Looks how the attempt stands. If `wait` holds, it may wait for a change of any host, at most a quarter of a
     /// second. It stays an attempt at its host, and a link is one to that host.
     fn look(&mut self, wait: bool) -> Result<Reached<R, W>, AllocError>
         ensures stays { (name : List ℕ) → IsFor name self.old → IsFor name self.new }
-        ensures own { (name : List ℕ) → IsFor name self.old → IfOk result (IsReachedOver R.state (IsOwn name)) };
+        ensures own { (name : List ℕ) → IsFor name self.old → IfOk result (IsReachedOver R.state (claims name)) };
+
+    /// Attempts of this kind may be given up.
+    ghost MayEnd: { Type 0 };
+
+    /// Gives up the attempt: the host is not reached.
+    fn end(&mut self)
+        requires { MayEnd }
+        ensures { (name : List ℕ) → IsFor name self.old → (claims name).IsUnreached };
 }
 
 /// How far asking a host has come.
@@ -60,8 +68,9 @@ pub(crate) fn talk_with_all<A: Reach<R, W> + Drop, R: NonBlocking + Drop, W: Sin
 ) -> Result<(), AllocError>
     requires few { length meta.old.pool.connections < 2 ^ 32 }
     requires equal { length talks.old ≡ length meta.old.pool.connections }
+    requires ends { A.MayEnd }
     // the talks, if memory is found
-    ensures talks { OnOk result (HostsStep A.IsFor A.IsOwn (host_view R.state R.polls W.state) 0 1000000000 talks.old
+    ensures talks { OnOk result (HostsStep A.IsFor A.claims (host_view R.state R.polls W.state) 0 1000000000 talks.old
         talks.new meta.old meta.new) }
     ensures over { OnOk result (AreHostsOver (host_view R.state R.polls W.state) talks.new) }
     // in each case
@@ -81,7 +90,7 @@ fn go_rounds<A: Reach<R, W> + Drop, R: NonBlocking + Drop, W: Sink + Drop, V: Wa
 ) -> Result<(), AllocError>
     requires few { length meta.old.pool.connections < 2 ^ 32 }
     requires equal { length talks.old ≡ length meta.old.pool.connections }
-    ensures rounds { OnOk result (HostsStep A.IsFor A.IsOwn (host_view R.state R.polls W.state) 0 1000000000 talks.old
+    ensures rounds { OnOk result (HostsStep A.IsFor A.claims (host_view R.state R.polls W.state) 0 1000000000 talks.old
         talks.new meta.old meta.new) }
     ensures size { length meta.new.pool.connections ≡ length meta.old.pool.connections }
     ensures hosts { length talks.new ≡ length talks.old }
@@ -125,7 +134,7 @@ fn go_round<A: Reach<R, W> + Drop, R: NonBlocking + Drop, W: Sink + Drop>(
 ) -> Result<bool, AllocError>
     requires few { length meta.old.pool.connections < 2 ^ 32 }
     requires equal { length talks.old ≡ length meta.old.pool.connections }
-    ensures round { OnOk result (AfterRoundOfHosts A.IsFor A.IsOwn (host_view R.state R.polls W.state) talks.old
+    ensures round { OnOk result (AfterRoundOfHosts A.IsFor A.claims (host_view R.state R.polls W.state) talks.old
         talks.new meta.old meta.new) }
     ensures size { length meta.new.pool.connections ≡ length meta.old.pool.connections }
     ensures hosts { length talks.new ≡ length talks.old }
@@ -149,7 +158,7 @@ fn go_on<A: Reach<R, W> + Drop, R: NonBlocking + Drop, W: Sink + Drop>(
     wait: bool,
 ) -> Result<Part, AllocError>
     requires { c < length meta.old.pool.connections }
-    ensures steps { OnOk result ((n : ℕ) → n < 1000000000 → HostStep A.IsFor A.IsOwn c n (n + 1) meta.old meta.new
+    ensures steps { OnOk result ((n : ℕ) → n < 1000000000 → HostStep A.IsFor A.claims c n (n + 1) meta.old meta.new
         (host_view R.state R.polls W.state talk.old) (host_view R.state R.polls W.state talk.new)) }
     ensures size { length meta.new.pool.connections ≡ length meta.old.pool.connections }
 {
@@ -181,7 +190,7 @@ fn connect<A: Reach<R, W> + Drop, R: NonBlocking + Drop, W: Sink + Drop>(
     wait: bool,
 ) -> Result<Option<HostTalk<A, R, W>>, AllocError>
     requires { c < length meta.old.pool.connections }
-    ensures begun { (name : List ℕ) → A.IsFor name attempt.old → IfOk result (λ next. IsBegun (A.IsOwn name) c
+    ensures begun { (name : List ℕ) → A.IsFor name attempt.old → IfOk result (λ next. IsBegun (A.claims name) c
         (view_if (host_view R.state R.polls W.state) next) meta.old meta.new) }
     ensures stays { (name : List ℕ) → A.IsFor name attempt.old → A.IsFor name attempt.new }
     ensures size { length meta.new.pool.connections ≡ length meta.old.pool.connections }
@@ -211,8 +220,9 @@ fn end_all<A: Reach<R, W> + Drop, R: NonBlocking + Drop, W: Sink + Drop>(
 ) -> Result<(), AllocError>
     requires few { length meta.old.pool.connections < 2 ^ 32 }
     requires equal { length talks.old ≡ length meta.old.pool.connections }
+    requires ends { A.MayEnd }
     // the last step of each, if memory is found
-    ensures ends { OnOk result ((n : ℕ) → n ≤ 1000000000 → HostsStep A.IsFor A.IsOwn
+    ensures ends { OnOk result ((n : ℕ) → n ≤ 1000000000 → HostsStep A.IsFor A.claims
         (host_view R.state R.polls W.state) n n talks.old talks.new meta.old meta.new) }
     ensures over { OnOk result (AreHostsOver (host_view R.state R.polls W.state) talks.new) }
     // in each case
@@ -232,15 +242,17 @@ fn end_one<A: Reach<R, W> + Drop, R: NonBlocking + Drop, W: Sink + Drop>(
     c: u32,
     talk: &mut HostTalk<A, R, W>,
 ) -> Result<(), AllocError>
-    requires { c < length meta.old.pool.connections }
-    ensures ends { OnOk result ((n : ℕ) → n ≤ 1000000000 → HostStep A.IsFor A.IsOwn c n n meta.old meta.new
+    requires place { c < length meta.old.pool.connections }
+    requires ends { A.MayEnd }
+    ensures ends { OnOk result ((n : ℕ) → n ≤ 1000000000 → HostStep A.IsFor A.claims c n n meta.old meta.new
         (host_view R.state R.polls W.state talk.old) (host_view R.state R.polls W.state talk.new)) }
     ensures over { OnOk result (IsHostOver (host_view R.state R.polls W.state talk.new)) }
     ensures size { length meta.new.pool.connections ≡ length meta.old.pool.connections }
 {
     match talk {
         HostTalk::Out => Ok(()),
-        HostTalk::Connecting(_) => {
+        HostTalk::Connecting(attempt) => {
+            attempt.end();
             meta.stop(c, Reason::Connect);
             *talk = HostTalk::Out;
             Ok(())

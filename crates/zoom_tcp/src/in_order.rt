@@ -1,10 +1,12 @@
 //! Asks hosts one after the other.
 ghost use Rattle.std.specs.Prelude.{◌≡◌, ◌<◌, ◌^◌, ℕ, List, Option, false, length, IfOk, OnOk};
+ghost use Rattle.std.specs.declared.time.Duration.{Duration};
 ghost use Rattle.zoom_questions.specs.Askable.{AreFit, AreAskable};
 ghost use Rattle.zoom_io.specs.TalksAmong.{halves_at};
 ghost use Rattle.zoom_tcp.specs.Asking.{is_present, octets_of, IsAsked, IsAskedOver};
 ghost use Rattle.zoom_tcp.specs.AskingSteps.{AfterTalkOn, AfterTalkAll};
-ghost use Rattle.zoom_tcp.specs.HostLinks.{IsOwnLink};
+ghost use Rattle.zoom_tcp.specs.Connecting.{IsSeen, claims_of};
+ghost use Rattle.zoom_tcp.specs.Silence.{HasReadFault};
 
 use crate::host_link::HostLink;
 use crate::limits::Limits;
@@ -12,10 +14,12 @@ use crate::network::Network;
 use crate::opening::open_all;
 use crate::sockets::Sockets;
 use crate::tcp_sockets::TcpSockets;
+use crate::times::{Limited, Times};
 use bytes::Bytes;
 use std::alloc::{AllocError, Global};
+use std::marker::Brand;
 use std::net::Net;
-use std::time::Clock;
+use std::time::{Clock, Duration};
 use zber::Seq;
 use zoom_io::{TalkError, Watch, talk};
 use zoom_pool::{Meta, MetaSettings, Question};
@@ -55,6 +59,10 @@ pub fn ask<N: Net + Clock, V: Watch>(
 /// Does what `ask` does, over the sockets of a network. Each connection is talked with over a link of its own: its
 /// socket was opened for one of the addresses that were found for its name, and is connected. The octets that came over
 /// it first are those that were read.
+///
+/// A connection is stopped for `Connect` only if each address of its name was tried, or the time for it was over, or
+/// the clock failed (`IsUnreached`). It is stopped for `Read` only if its host was silent for as long as the patience,
+/// or the total was over, or the clock or a socket failed (`ReadFault`).
 pub fn ask_over<S: Sockets, V: Watch>(
     alloc: Global,
     network: &Network<S>,
@@ -68,28 +76,60 @@ pub fn ask_over<S: Sockets, V: Watch>(
     requires askable { AreAskable questions.items }
     requires fit { AreFit settings }
     requires equal { length addresses.now ≡ length questions.items }
-    ensures asked { IfOk result (λ meta. IsAskedOver
-        (λ c. IsOwnLink S.AreFound S.IsOpening S.IsConnected S.octets (halves_at addresses.now c))
+    ensures asked { IfOk result (λ meta. (begun : Duration) × IsSeen S.facts begun × IsAskedOver
+        (λ c. claims_of S.facts limits begun false (halves_at addresses.now c))
         questions.items settings false (is_present addresses.now) meta) }
 {
+    let begun = network.time_or(Duration::ZERO);
+    ask_since::<S, Brand, V>(
+        alloc, network, questions, settings, addresses, limits, begun, watch,
+    )
+}
+
+/// Does what `ask_over` does, within limits of which the time for everything began at `begun`.
+fn ask_since<S: Sockets, K: Limited, V: Watch>(
+    alloc: Global,
+    network: &Network<S>,
+    questions: Vec<Question>,
+    settings: MetaSettings,
+    addresses: &[Option<Bytes>],
+    limits: Limits,
+    begun: Duration,
+    watch: &mut V,
+) -> Result<Meta, AllocError>
+    // the times
+    requires limits { limits ≡ K.limits }
+    requires begun { begun ≡ K.begun }
+    requires mode { K.at_once ≡ false }
+    requires seen { IsSeen S.facts begun }
+    // the questions
+    requires some { length questions.items < 2 ^ 32 }
+    requires askable { AreAskable questions.items }
+    requires fit { AreFit settings }
+    requires equal { length addresses.now ≡ length questions.items }
+    ensures asked { IfOk result (λ meta. IsAskedOver
+        (λ c. claims_of S.facts K.limits K.begun K.at_once (halves_at addresses.now c))
+        questions.items settings false (is_present addresses.now) meta) }
+{
+    let times = Times::<K>::new(limits, begun);
     let mut meta = Meta::new(alloc, Seq::from_vec(questions), settings)?;
-    let links = open_all(alloc, network, &mut meta, addresses, limits, watch)?;
+    let links = open_all(alloc, network, &mut meta, addresses, &times, watch)?;
     talk_all(alloc, &mut meta, links, watch)?;
     Ok(meta)
 }
 
 /// Talks with each host in order. Each link is dropped when its talk ends.
-fn talk_all<S: Sockets, V: Watch>(
+fn talk_all<S: Sockets, K: Limited, V: Watch>(
     alloc: Global,
     meta: &mut Meta,
-    links: Vec<Option<HostLink<'_, S>>>,
+    links: Vec<Option<HostLink<'_, S, K>>>,
     watch: &mut V,
 ) -> Result<(), AllocError>
     requires few { length meta.old.pool.connections < 2 ^ 32 }
     requires equal { length links.items ≡ length meta.old.pool.connections }
     ensures talks { OnOk result ((address : ℕ → Option (List ℕ)) → AfterTalkAll links.entry.items
         (λ l. S.octets_left l.source.timed.socket.value l.source.cursor)
-        (λ c. IsOwnLink S.AreFound S.IsOpening S.IsConnected S.octets (address c)) (length links.entry.items)
+        (λ c. claims_of S.facts K.limits K.begun K.at_once (address c)) (length links.entry.items)
         meta.old meta.new) }
     ensures size { length meta.new.pool.connections ≡ length meta.old.pool.connections }
 {
@@ -103,14 +143,14 @@ fn talk_all<S: Sockets, V: Watch>(
 }
 
 /// Talks with a host if there is a link to it.
-fn talk_if<S: Sockets>(
+fn talk_if<S: Sockets, K: Limited>(
     alloc: Global,
     meta: &mut Meta,
     c: u32,
-    link: Option<HostLink<'_, S>>,
+    link: Option<HostLink<'_, S, K>>,
 ) -> Result<(), AllocError>
     requires { c < length meta.old.pool.connections }
-    ensures talks { OnOk result (AfterTalkOn c (octets_of link.entry
+    ensures talks { OnOk result (AfterTalkOn (HasReadFault S.facts K.limits K.begun) c (octets_of link.entry
         (λ l. S.octets_left l.source.timed.socket.value l.source.cursor)) meta.old meta.new) }
     ensures size { length meta.new.pool.connections ≡ length meta.old.pool.connections }
 {
@@ -121,15 +161,15 @@ fn talk_if<S: Sockets>(
 }
 
 /// Talks with a host until its connection ends.
-fn talk_on<S: Sockets>(
+fn talk_on<S: Sockets, K: Limited>(
     alloc: Global,
     meta: &mut Meta,
     c: u32,
-    link: HostLink<'_, S>,
+    link: HostLink<'_, S, K>,
 ) -> Result<(), AllocError>
     requires { c < length meta.old.pool.connections }
-    ensures talks { OnOk result (AfterTalkOn c (Some (S.octets_left link.entry.source.timed.socket.value
-        link.entry.source.cursor)) meta.old meta.new) }
+    ensures talks { OnOk result (AfterTalkOn (HasReadFault S.facts K.limits K.begun) c
+        (Some (S.octets_left link.entry.source.timed.socket.value link.entry.source.cursor)) meta.old meta.new) }
     ensures size { length meta.new.pool.connections ≡ length meta.old.pool.connections }
 {
     let HostLink {

@@ -15,6 +15,7 @@ mod opening;
 mod service;
 mod sockets;
 mod tcp_sockets;
+mod times;
 
 pub use at_once::{ask_at_once, ask_at_once_over};
 pub use clients::{Arrival, Clients, TcpClients};

@@ -1,6 +1,7 @@
 //! The time limits of asking hosts.
-ghost use Rattle.std.specs.Prelude.{◌≡◌, ◌-◌, ◌*◌, true, is_some, IfSome};
+ghost use Rattle.std.specs.Prelude.{◌≡◌, ◌-◌, ◌*◌, true, false, is_some, IfSome};
 ghost use Rattle.std.specs.Duration.{as_nanos};
+ghost use Rattle.zoom_tcp.specs.Silence.{IsWithin, IsOver, IsTotalOver};
 
 use std::time::Duration;
 
@@ -42,6 +43,17 @@ impl Limits {
             None => Duration::MAX,
         }
     }
+
+    /// Whether the time for everything is over, if it began at `begun`. It never is if there is no limit.
+    pub(crate) fn is_total_over(&self, begun: Duration, now: Duration) -> bool
+        ensures over { result ≡ true → IsTotalOver self.now begun now }
+        ensures within { result ≡ false → IfSome self.now.total (IsWithin begun now) }
+    {
+        match self.total {
+            Some(total) => is_over(total, begun, now),
+            None => false,
+        }
+    }
 }
 
 /// What is left at `now` of a span of time that began at `begun`: zero if the span is over.
@@ -49,4 +61,12 @@ pub(crate) fn left_of(span: Duration, begun: Duration, now: Duration) -> Duratio
     ensures { as_nanos result ≡ as_nanos span - (as_nanos now - as_nanos begun) }
 {
     span.saturating_sub(now.saturating_sub(begun))
+}
+
+/// Whether a span of time that began at `begun` is over at `now`.
+pub(crate) fn is_over(span: Duration, begun: Duration, now: Duration) -> bool
+    ensures over { result ≡ true → IsOver begun now span }
+    ensures within { result ≡ false → IsWithin begun now span }
+{
+    left_of(span, begun, now).is_zero()
 }

@@ -1,12 +1,13 @@
 //! The sockets of all links, what each is ready for, and what it has not sent yet.
-ghost use Rattle.std.specs.Prelude.{◌≡◌, ◌<◌, length, IfOk};
+ghost use Rattle.std.specs.Prelude.{◌≡◌, ◌<◌, length, IfOk, OnErr};
 ghost use Rattle.std.specs.Io.{WritesAtMost};
-ghost use Rattle.zoom_tcp.specs.HostLinks.{IsBoundedTransfer, IsConnectedIf, AfterReadFrom};
+ghost use Rattle.zoom_tcp.specs.HostLinks.{IsBoundedTransfer, IsBrokenIf, AfterLook, AfterReadFrom};
+ghost use Rattle.zoom_tcp.specs.Connecting.{IsSeen};
 
 use crate::sockets::{ConnectProgress, Readiness, Sockets, Transfer};
 use bytes::BytesMut;
 use std::alloc::{AllocError, Global};
-use std::cell::RefCell;
+use std::cell::Cell;
 use std::time::Duration;
 use zoom_io::Failed;
 
@@ -16,14 +17,16 @@ pub(crate) const LONGEST_WAIT: u64 = 250;
 /// The sockets of all links. The links share it by reference.
 #[derive(Drop)]
 pub struct Network<S> {
-    pub(crate) poller: RefCell<Poller<S>>,
-}
-
-/// The sockets, what each is ready for, and what it has not sent yet.
-#[derive(Drop)]
-pub(crate) struct Poller<S> {
     alloc: Global,
     pub(crate) sockets: S,
+    /// What the links share. Each takes it out while it works, and puts it back.
+    poller: Cell<Poller>,
+}
+
+/// What each socket is ready for, and what it has not sent yet.
+#[derive(Drop)]
+pub(crate) struct Poller {
+    alloc: Global,
     /// By token.
     ready: Vec<Readiness>,
     /// The octets that a sink took and no socket has taken yet, by token.
@@ -40,25 +43,59 @@ impl<S> Network<S> {
     /// A network without open sockets.
     pub fn new(alloc: Global, sockets: S) -> Network<S> {
         Network {
-            poller: RefCell::new(Poller {
-                alloc,
-                sockets,
-                ready: Vec::new(alloc),
-                unsent: Vec::new(alloc),
-                looks: 0,
-                news: false,
-                nearest: Duration::MAX,
-            }),
+            alloc,
+            sockets,
+            poller: Cell::new(Poller::new(alloc)),
         }
     }
 
     /// Gives the sockets back.
     pub fn into_sockets(self) -> S {
-        self.poller.into_inner().sockets
+        self.sockets
+    }
+
+    /// Takes out what the links share.
+    pub(crate) fn take_poller(&self) -> Poller {
+        self.poller.replace(Poller::new(self.alloc))
+    }
+
+    /// Notes that all links have been told what was reported so far, except that octets came.
+    pub(crate) fn end_connecting(&self) {
+        let mut poller = self.take_poller();
+        poller.end_connecting();
+        self.put_poller(poller);
+    }
+
+    /// Puts back what the links share.
+    pub(crate) fn put_poller(&self, poller: Poller) {
+        self.poller.set(poller);
     }
 }
 
-impl<S> Poller<S> {
+impl<S: Sockets> Network<S> {
+    /// The time, or another one if the clock fails.
+    pub(crate) fn time_or(&self, other: Duration) -> Duration
+        ensures { IsSeen S.facts result }
+    {
+        match self.sockets.now() {
+            Some(now) => now,
+            None => other,
+        }
+    }
+}
+
+impl Poller {
+    fn new(alloc: Global) -> Poller {
+        Poller {
+            alloc,
+            ready: Vec::new(alloc),
+            unsent: Vec::new(alloc),
+            looks: 0,
+            news: false,
+            nearest: Duration::MAX,
+        }
+    }
+
     /// A token that no socket has.
     pub(crate) fn new_token(&mut self) -> Result<usize, AllocError> {
         let token = self.ready.len();
@@ -98,53 +135,57 @@ impl<S> Poller<S> {
             *unsent = Some(octets);
         }
     }
-}
 
-impl<S: Sockets> Poller<S> {
     /// Waits at most `most` for reports.
-    pub(crate) fn wait(&mut self, most: Duration) {
-        if self.look(most) {
+    pub(crate) fn wait<S: Sockets>(&mut self, sockets: &S, most: Duration) {
+        if self.look(sockets, most) {
             self.news = true;
         }
     }
 
-    /// Notes that all links have been told what was reported so far, except that octets came.
-    pub(crate) fn end_connecting(&mut self) {
+    /// Does what the network's `end_connecting` does.
+    fn end_connecting(&mut self) {
         self.news = self.ready.iter().any(|ready| ready.readable);
     }
 
     /// Waits for reports, no longer than each link allows. It does not wait if reports came outside of such a wait,
     /// since links may have octets then that were not read.
-    pub(crate) fn wait_for_any(&mut self, now: Duration) {
+    pub(crate) fn wait_for_any<S: Sockets>(&mut self, sockets: &S, now: Duration) {
         let most = self
             .nearest
             .saturating_sub(now)
             .min(Duration::from_millis(LONGEST_WAIT));
         self.nearest = Duration::MAX;
-        self.look(if self.news { Duration::ZERO } else { most });
+        self.look(sockets, if self.news { Duration::ZERO } else { most });
         self.news = false;
     }
 
     /// Waits at most `most` for reports. Returns whether a flag is set that was not.
-    fn look(&mut self, most: Duration) -> bool {
+    fn look<S: Sockets>(&mut self, sockets: &S, most: Duration) -> bool {
         self.looks = self.looks.wrapping_add(1);
-        self.sockets.wait(most, &mut self.ready)
+        sockets.wait(most, &mut self.ready)
     }
 
     /// How the attempt of a socket to connect stands. It is pending until the socket is reported writable.
-    pub(crate) fn progress(&mut self, token: usize, socket: &S::Socket) -> ConnectProgress
-        ensures { IsConnectedIf S.IsConnected socket.now result }
+    pub(crate) fn progress<S: Sockets>(
+        &mut self,
+        sockets: &S,
+        token: usize,
+        socket: &S::Socket,
+    ) -> ConnectProgress
+        ensures { AfterLook S.facts socket.now result }
     {
         if self.ready_of(token).writable {
-            self.sockets.progress(socket)
+            sockets.progress(socket)
         } else {
             ConnectProgress::Pending
         }
     }
 
     /// Reads from a socket that was reported readable.
-    pub(crate) fn read(
+    pub(crate) fn read<S: Sockets>(
         &mut self,
+        sockets: &S,
         token: usize,
         socket: &S::Socket,
         cursor: &mut S::Cursor,
@@ -153,12 +194,13 @@ impl<S: Sockets> Poller<S> {
         ensures bound { IsBoundedTransfer result (length piece.new) }
         ensures octets { AfterReadFrom (S.octets_left socket.now cursor.old) (S.octets_left socket.now cursor.new)
             result piece.new }
+        ensures broken { IsBrokenIf S.facts.IsBroken socket.now result }
     {
         let ready = self.ready_of(token);
         if !ready.readable {
             return Transfer::NotYet;
         }
-        let moved = self.sockets.read(socket, cursor, piece);
+        let moved = sockets.read(socket, cursor, piece);
         let readable = match moved {
             Transfer::Octets(count) => count == 0 || count == piece.len() || ready.closed,
             Transfer::NotYet => false,
@@ -169,22 +211,30 @@ impl<S: Sockets> Poller<S> {
     }
 
     /// Writes to a socket that was reported writable.
-    fn write(&mut self, token: usize, socket: &S::Socket, piece: &[u8]) -> Transfer
-        ensures { IsBoundedTransfer result (length piece.now) }
+    fn write<S: Sockets>(
+        &mut self,
+        sockets: &S,
+        token: usize,
+        socket: &S::Socket,
+        piece: &[u8],
+    ) -> Transfer
+        ensures bound { IsBoundedTransfer result (length piece.now) }
+        ensures broken { IsBrokenIf S.facts.IsBroken socket.now result }
     {
         let ready = self.ready_of(token);
         if !ready.writable {
             return Transfer::NotYet;
         }
-        let moved = self.sockets.write(socket, piece);
+        let moved = sockets.write(socket, piece);
         let writable = moved != Transfer::NotYet;
         self.set_ready(token, Readiness { writable, ..ready });
         moved
     }
 
     /// Writes a front of `piece` without waiting. What the socket does not take now is kept until it does.
-    pub(crate) fn send(
+    pub(crate) fn send<S: Sockets>(
         &mut self,
+        sockets: &S,
         token: usize,
         socket: &S::Socket,
         piece: &[u8],
@@ -202,10 +252,10 @@ impl<S: Sockets> Poller<S> {
             self.keep_unsent(token, unsent);
             return Ok(piece.len());
         }
-        match self.write(token, socket, piece) {
+        match self.write(sockets, token, socket, piece) {
             Transfer::Octets(count) if count > 0 => Ok(count),
-            Transfer::NotYet => self.send_later(token, piece),
-            _ => Err(Failed),
+            Transfer::Failure => Err(Failed),
+            _ => self.send_later(token, piece),
         }
     }
 
@@ -220,30 +270,40 @@ impl<S: Sockets> Poller<S> {
         Ok(piece.len())
     }
 
-    /// Writes what the socket has not taken yet, until it takes no more.
-    pub(crate) fn flush(&mut self, token: usize, socket: &S::Socket) -> Result<(), Failed> {
+    /// Writes what the socket has not taken yet, until it takes no more. Fails only if the socket does.
+    pub(crate) fn flush<S: Sockets>(
+        &mut self,
+        sockets: &S,
+        token: usize,
+        socket: &S::Socket,
+    ) -> Result<(), Failed>
+        ensures { OnErr result (S.facts.IsBroken socket.now) }
+    {
         let Some(mut unsent) = self.take_unsent(token) else {
             return Ok(());
         };
-        self.write_front(token, socket, &mut unsent)?;
+        self.write_front(sockets, token, socket, &mut unsent)?;
         if !unsent.is_empty() {
             self.keep_unsent(token, unsent);
         }
         Ok(())
     }
 
-    /// Writes octets until the socket takes no more, and leaves the others.
-    fn write_front(
+    /// Writes octets until the socket takes no more, and leaves the others. Fails only if the socket does.
+    fn write_front<S: Sockets>(
         &mut self,
+        sockets: &S,
         token: usize,
         socket: &S::Socket,
         octets: &mut BytesMut,
-    ) -> Result<(), Failed> {
+    ) -> Result<(), Failed>
+        ensures { OnErr result (S.facts.IsBroken socket.now) }
+    {
         while !octets.is_empty() {
-            match self.write(token, socket, octets.as_slice()) {
+            match self.write(sockets, token, socket, octets.as_slice()) {
                 Transfer::Octets(count) if count > 0 => octets.advance(count),
-                Transfer::NotYet => return Ok(()),
-                _ => return Err(Failed),
+                Transfer::Failure => return Err(Failed),
+                _ => return Ok(()),
             }
         }
         Ok(())

@@ -2,15 +2,15 @@
 ghost use Rattle.std.specs.Prelude.{◌≡◌, ◌<◌, ◌^◌, ℕ, List, Option, Some, length, is_some, IfOk};
 ghost use Rattle.zoom_io.specs.TalksAmong.{halves_at};
 ghost use Rattle.zoom_tcp.specs.Asking.{KnownOctets, is_present, octets_of};
-ghost use Rattle.zoom_tcp.specs.AskingSteps.{AfterOpen, AfterOpenIf, AfterOpenAll, link_when};
-ghost use Rattle.zoom_tcp.specs.Connecting.{IsAttempt, IsFitIf, AttemptStepIf, AreAttempts};
-ghost use Rattle.zoom_tcp.specs.HostLinks.{IsHostLink, IsOwnLink};
+ghost use Rattle.zoom_tcp.specs.AskingSteps.{AfterOpen, AfterOpenIf, AfterOpenAll, only_link, link_over, link_when};
+ghost use Rattle.zoom_tcp.specs.Connecting.{IsSeen, IsUnreached, IsAttempt, IsFitIf, AttemptStepIf, AreAttempts, IsLinkFor, claims_of};
+ghost use Rattle.zoom_tcp.specs.HostLinks.{IsHostLink};
 
 use crate::connecting::{Attempt, await_all, begin_attempts};
 use crate::host_link::HostLink;
-use crate::limits::Limits;
 use crate::network::Network;
 use crate::sockets::Sockets;
+use crate::times::{Limited, Times};
 use bytes::Bytes;
 use std::alloc::{AllocError, Global};
 use zoom_io::{PushError, Sink, Watch, push};
@@ -20,46 +20,49 @@ use zoom_pool::{Meta, Reason};
 /// Connects to all hosts that have an address, side by side. Then sends each the Init. An entry is `None` if there is
 /// no address, or if the host cannot be reached or the Init cannot be written. `watch` looks at the connections while
 /// it waits.
-pub(crate) fn open_all<'a, S: Sockets, V: Watch>(
+pub(crate) fn open_all<'a, S: Sockets, K: Limited, V: Watch>(
     alloc: Global,
     network: &'a Network<S>,
     meta: &mut Meta,
     addresses: &[Option<Bytes>],
-    limits: Limits,
+    times: &Times<K>,
     watch: &mut V,
-) -> Result<Vec<Option<HostLink<'a, S>>>, AllocError>
+) -> Result<Vec<Option<HostLink<'a, S, K>>>, AllocError>
     requires few { length meta.old.pool.connections < 2 ^ 32 }
     requires equal { length addresses.now ≡ length meta.old.pool.connections }
+    requires seen { IsSeen S.facts times.now.begun }
     ensures opens { IfOk result (λ links. AfterOpenAll links.items
         (λ l. S.octets_left l.source.timed.socket.value l.source.cursor)
-        (λ c. IsOwnLink S.AreFound S.IsOpening S.IsConnected S.octets (halves_at addresses.now c))
+        (λ c. claims_of S.facts K.limits K.begun K.at_once (halves_at addresses.now c))
         (is_present addresses.now) meta.old meta.new) }
     ensures size { length meta.new.pool.connections ≡ length meta.old.pool.connections }
     ensures links { IfOk result (λ links. length links.items ≡ length addresses.now) }
 {
-    let mut attempts = begin_attempts(alloc, network, addresses, limits)?;
+    let mut attempts = begin_attempts(alloc, network, addresses, times)?;
     await_all(network, &mut attempts, meta, watch);
+    network.end_connecting();
     begin_all(alloc, meta, addresses, &mut attempts)
 }
 
 /// Sends the Init on each link to a host that has an address.
-fn begin_all<'a, S: Sockets>(
+fn begin_all<'a, S: Sockets, K: Limited>(
     alloc: Global,
     meta: &mut Meta,
     addresses: &[Option<Bytes>],
-    attempts: &mut [Option<Attempt<'a, S>>],
-) -> Result<Vec<Option<HostLink<'a, S>>>, AllocError>
+    attempts: &mut [Option<Attempt<'a, S, K>>],
+) -> Result<Vec<Option<HostLink<'a, S, K>>>, AllocError>
     // the connections, with an address and an attempt for each, or none
     requires few { length meta.old.pool.connections < 2 ^ 32 }
     requires equal { length addresses.now ≡ length meta.old.pool.connections }
     requires attempts { length attempts.old ≡ length addresses.now }
+    requires named { (c : ℕ) → is_present attempts.old c ≡ is_present addresses.now c }
     // attempts for their own hosts
     requires own { AreAttempts (halves_at addresses.now) attempts.old
-        (λ name a. IsAttempt S.AreFound S.IsOpening S.IsConnected name a.addresses.items a.stage) }
+        (λ name a. IsAttempt S.facts K.limits K.begun K.at_once name a.addresses.items a.place a.started a.stage) }
     // the links
     ensures opens { IfOk result (λ links. AfterOpenAll links.items
         (λ l. S.octets_left l.source.timed.socket.value l.source.cursor)
-        (λ c. IsOwnLink S.AreFound S.IsOpening S.IsConnected S.octets (halves_at addresses.now c))
+        (λ c. claims_of S.facts K.limits K.begun K.at_once (halves_at addresses.now c))
         (is_present addresses.now) meta.old meta.new) }
     // how many connections and links
     ensures size { length meta.new.pool.connections ≡ length meta.old.pool.connections }
@@ -74,16 +77,17 @@ fn begin_all<'a, S: Sockets>(
 }
 
 /// The link that an attempt has made, if there is one.
-fn link_if<'a, S: Sockets>(
-    attempt: &mut Option<Attempt<'a, S>>,
-) -> Result<Option<HostLink<'a, S>>, AllocError>
+fn link_if<'a, S: Sockets, K: Limited>(
+    attempt: &mut Option<Attempt<'a, S, K>>,
+) -> Result<Option<HostLink<'a, S, K>>, AllocError>
     ensures stays { AttemptStepIf attempt.old attempt.new
-        (λ name a. IsAttempt S.AreFound S.IsOpening S.IsConnected name a.addresses.items a.stage) }
-    ensures own { (address : Option (List ℕ)) → IsFitIf address attempt.old
-        (λ name a. IsAttempt S.AreFound S.IsOpening S.IsConnected name a.addresses.items a.stage)
-        → IfOk result (λ link. IsFitIf address link
-        (λ name l. IsHostLink S.AreFound S.IsOpening S.IsConnected S.octets name
-        (S.octets_left l.source.timed.socket.value l.source.cursor))) }
+        (λ name a. IsAttempt S.facts K.limits K.begun K.at_once name a.addresses.items a.place a.started a.stage) }
+    ensures named { is_some attempt.new ≡ is_some attempt.old }
+    ensures own { (address : Option (List ℕ)) → is_some attempt.old ≡ is_some address → IsFitIf address attempt.old
+        (λ name a. IsAttempt S.facts K.limits K.begun K.at_once name a.addresses.items a.place a.started a.stage)
+        → IfOk result (λ link. IsLinkFor address link
+        (λ name l. IsHostLink S.facts name (S.octets_left l.source.timed.socket.value l.source.cursor))
+        (IsUnreached S.facts K.limits K.begun K.at_once)) }
 {
     match attempt {
         Some(attempt) => attempt.link(),
@@ -92,19 +96,19 @@ fn link_if<'a, S: Sockets>(
 }
 
 /// Sends the Init on the link to a host that has an address.
-fn begin_if<'a, S: Sockets>(
+fn begin_if<'a, S: Sockets, K: Limited>(
     alloc: Global,
     meta: &mut Meta,
     c: u32,
     address: &Option<Bytes>,
-    link: Option<HostLink<'a, S>>,
-) -> Result<Option<HostLink<'a, S>>, AllocError>
+    link: Option<HostLink<'a, S, K>>,
+) -> Result<Option<HostLink<'a, S, K>>, AllocError>
     requires place { c < length meta.old.pool.connections }
-    requires own { IsFitIf address.now link
-        (λ name l. IsHostLink S.AreFound S.IsOpening S.IsConnected S.octets name
-        (S.octets_left l.source.timed.socket.value l.source.cursor)) }
+    requires own { IsLinkFor address.now link
+        (λ name l. IsHostLink S.facts name (S.octets_left l.source.timed.socket.value l.source.cursor))
+        (IsUnreached S.facts K.limits K.begun K.at_once) }
     ensures opens { IfOk result (λ opened. AfterOpenIf
-        (IsOwnLink S.AreFound S.IsOpening S.IsConnected S.octets address.now) (is_some address.now) c
+        (claims_of S.facts K.limits K.begun K.at_once address.now) (is_some address.now) c
         (octets_of opened (λ l. S.octets_left l.source.timed.socket.value l.source.cursor)) meta.old meta.new) }
     ensures size { length meta.new.pool.connections ≡ length meta.old.pool.connections }
 {
@@ -116,26 +120,30 @@ fn begin_if<'a, S: Sockets>(
 
 /// Sends the Init on a link. Returns `None`, and stops the connection, if there is no link or the Init cannot be
 /// written.
-fn begin_on<'a, S: Sockets>(
+fn begin_on<'a, S: Sockets, K: Limited>(
     alloc: Global,
     meta: &mut Meta,
     c: u32,
-    link: Option<HostLink<'a, S>>,
-) -> Result<Option<HostLink<'a, S>>, AllocError>
+    link: Option<HostLink<'a, S, K>>,
+) -> Result<Option<HostLink<'a, S, K>>, AllocError>
     requires { c < length meta.old.pool.connections }
     ensures opens { IfOk result (λ opened. AfterOpen
-        (λ came. octets_of link.entry (λ l. S.octets_left l.source.timed.socket.value l.source.cursor) ≡ Some came) c
+        (only_link (octets_of link.entry (λ l. S.octets_left l.source.timed.socket.value l.source.cursor))) c
         (octets_of opened (λ l. S.octets_left l.source.timed.socket.value l.source.cursor)) meta.old meta.new) }
     ensures size { length meta.new.pool.connections ≡ length meta.old.pool.connections }
 {
-    let Some(mut link) = link else {
-        meta.stop(c, Reason::Connect);
-        return Ok(None);
-    };
-    if begin(alloc, meta, c, &mut link.sink)? {
-        Ok(Some(link))
-    } else {
-        Ok(None)
+    match link {
+        Some(mut link) => {
+            if begin(alloc, meta, c, &mut link.sink)? {
+                Ok(Some(link))
+            } else {
+                Ok(None)
+            }
+        }
+        None => {
+            meta.stop(c, Reason::Connect);
+            Ok(None)
+        }
     }
 }
 
@@ -148,7 +156,7 @@ pub(crate) fn begin<W: Sink>(
 ) -> Result<bool, AllocError>
     requires { c < length meta.old.pool.connections }
     ensures opens { IfOk result (λ reached. (came : KnownOctets)
-        → AfterOpen (λ z. z ≡ came) c (link_when reached came) meta.old meta.new) }
+        → AfterOpen (link_over came) c (link_when reached came) meta.old meta.new) }
     ensures size { length meta.new.pool.connections ≡ length meta.old.pool.connections }
 {
     one_transcript();

@@ -1,6 +1,7 @@
 //! The sockets that links stand on, and a way to wait until one of them is ready.
-ghost use Rattle.std.specs.Prelude.{◌≡◌, ℕ, List, length, Option, IfOk, IfSome};
-ghost use Rattle.zoom_tcp.specs.HostLinks.{IsBoundedTransfer, IsConnectedIf, AfterReadFrom};
+ghost use Rattle.std.specs.Prelude.{◌≡◌, ℕ, List, length, Option, IfOk, IfSome, IfNone};
+ghost use Rattle.zoom_tcp.specs.HostLinks.{IsBoundedTransfer, IsBrokenIf, AfterProgress, AfterReadFrom, AfterTransfer};
+ghost use Rattle.zoom_tcp.specs.SocketFacts.{SocketFacts};
 
 use std::alloc::{AllocError, Global};
 use std::time::Duration;
@@ -46,8 +47,6 @@ pub enum ConnectProgress {
 /// The contracts of `ask_over` and `ask_at_once_over` speak of what the calls here gave, by the ghost members. Sockets
 /// in memory can tell exactly what they are; those of a system tell what their values say.
 pub trait Sockets {
-    ghost use Rattle.std.specs.declared.time.Duration.{Duration};
-
     /// An address of a host.
     type Address: Drop;
 
@@ -57,61 +56,52 @@ pub trait Sockets {
     /// How far the octets of a socket were read.
     type Cursor: Drop;
 
-    /// The clock gave this time.
-    ghost IsMoment: { Duration → Type 0 };
+    /// What the calls gave.
+    ghost facts: { SocketFacts Self.Address Self.Socket };
 
-    /// These addresses were found for a name, `host:port`, in the order in which to try them.
-    ghost AreFound: { List ℕ → List Self.Address → Type 0 };
-
-    /// Beginning to connect to this address gave this socket, or none.
-    ghost IsOpening: { Self.Address → Option Self.Socket → Type 0 };
-
-    /// The socket is connected.
-    ghost IsConnected: { Self.Socket → Type 0 };
-
-    /// All octets that come on a socket, in order, if they are known.
-    ghost octets: { Self.Socket → Option (List ℕ) };
-
-    /// Those of them that were not read yet.
+    /// The octets that come on a socket and were not read yet, in order, if they are known.
     ghost octets_left: { Self.Socket → Self.Cursor → Option (List ℕ) };
 
     /// The time since a fixed one, or `None` if the clock fails.
     fn now(&self) -> Option<Duration>
-        ensures { IfSome result IsMoment };
+        ensures seen { IfSome result facts.IsMoment }
+        ensures fails { IfNone result facts.HasNoClock };
 
     /// The addresses that `host:port` stands for, in the order in which to try them. There are none if it is not
     /// known.
     fn resolve(&self, alloc: Global, text: &str) -> Result<Vec<Self::Address>, AllocError>
-        ensures { IfOk result (λ addresses. AreFound text.now addresses.items) };
+        ensures { IfOk result (λ addresses. facts.AreFound text.now addresses.items) };
 
     /// Begins to connect, and to report changes of the socket under this token. No other open socket has the token.
-    fn connect(&mut self, token: usize, address: &Self::Address) -> Option<Self::Socket>
-        ensures { IsOpening address.now result };
+    fn connect(&self, token: usize, address: &Self::Address) -> Option<Self::Socket>
+        ensures { facts.IsOpening address.now result };
 
     /// How the attempt to connect stands. The socket has to be reported writable before.
-    fn progress(&mut self, socket: &Self::Socket) -> ConnectProgress
-        ensures { IsConnectedIf IsConnected socket.now result };
+    fn progress(&self, socket: &Self::Socket) -> ConnectProgress
+        ensures { AfterProgress facts socket.now result };
 
     /// The cursor of a socket of which no octets were read yet.
     fn first(socket: &Self::Socket) -> Self::Cursor
-        ensures { octets_left socket.now result ≡ octets socket.now };
+        ensures { octets_left socket.now result ≡ facts.octets socket.now };
 
     /// Waits at most `most` for reports, and notes them in `ready` by token. Returns whether a flag is set that was
     /// not.
-    fn wait(&mut self, most: Duration, ready: &mut [Readiness]) -> bool;
+    fn wait(&self, most: Duration, ready: &mut [Readiness]) -> bool;
 
     /// Reads octets into the front of `piece`, from where the last read ended.
-    fn read(
-        &mut self,
-        socket: &Self::Socket,
-        cursor: &mut Self::Cursor,
-        piece: &mut [u8],
-    ) -> Transfer
+    fn read(&self, socket: &Self::Socket, cursor: &mut Self::Cursor, piece: &mut [u8]) -> Transfer
         ensures bound { IsBoundedTransfer result (length piece.new) }
         ensures octets { AfterReadFrom (octets_left socket.now cursor.old) (octets_left socket.now cursor.new) result
-            piece.new };
+            piece.new }
+        ensures moved { AfterTransfer facts socket.now result };
 
     /// Writes a front of `piece`.
-    fn write(&mut self, socket: &Self::Socket, piece: &[u8]) -> Transfer
-        ensures { IsBoundedTransfer result (length piece.now) };
+    fn write(&self, socket: &Self::Socket, piece: &[u8]) -> Transfer
+        ensures bound { IsBoundedTransfer result (length piece.now) }
+        ensures broken { IsBrokenIf facts.IsBroken socket.now result };
+
+    /// Takes note that a socket is given up. It was looked at 18,446,744,073,709,551,615 times, or 1,000,000,000 times
+    /// if hosts are asked at once, and is not connected yet, or has no octets.
+    fn give_up(&self, socket: &Self::Socket)
+        ensures { facts.IsGivenUp socket.now };
 }

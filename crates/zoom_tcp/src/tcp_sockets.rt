@@ -8,6 +8,7 @@ use mio::event::Event;
 use mio::net::TcpStream;
 use mio::{Events, Interest, Poll, Token};
 use std::alloc::{AllocError, Global};
+use std::cell::RefCell;
 use std::io;
 use std::io::{ErrorKind, Read, Write};
 use std::net::{Net, SocketAddr, ToSocketAddrs};
@@ -22,8 +23,9 @@ const MOST_EVENTS: usize = 256;
 pub struct TcpSockets<'a, N> {
     net: &'a N,
     origin: Option<Instant>,
-    poll: Option<Poll>,
-    events: Events,
+    /// Each call borrows these for itself alone.
+    poll: RefCell<Option<Poll>>,
+    events: RefCell<Events>,
 }
 
 impl<'a, N: Net + Clock> TcpSockets<'a, N> {
@@ -34,8 +36,8 @@ impl<'a, N: Net + Clock> TcpSockets<'a, N> {
         Ok(TcpSockets {
             net,
             origin: Instant::now(net).ok(),
-            poll: Poll::new(net).ok(),
-            events: Events::with_capacity(alloc, MOST_EVENTS)?,
+            poll: RefCell::new(Poll::new(net).ok()),
+            events: RefCell::new(Events::with_capacity(alloc, MOST_EVENTS)?),
         })
     }
 }
@@ -84,6 +86,19 @@ fn reported(ready: Readiness, event: &Event) -> Readiness {
     }
 }
 
+/// Notes what sockets are ready for by these events. Returns whether a flag is set that was not.
+fn note_all(events: &Events, ready: &mut [Readiness]) -> bool {
+    let mut is_new = false;
+    for event in events {
+        if let Some(noted) = ready.get_mut(event.token().0) {
+            let now = reported(*noted, event);
+            is_new = is_new || now != *noted;
+            *noted = now;
+        }
+    }
+    is_new
+}
+
 /// The addresses that are found for `host:port`.
 fn found<N: Net>(alloc: Global, net: &N, text: &str) -> Result<Vec<SocketAddr>, AllocError> {
     let mut addresses = Vec::new(alloc);
@@ -103,15 +118,18 @@ impl<'a, N: Net + Clock> Sockets for TcpSockets<'a, N> {
 
     type Cursor = ();
 
-    ghost IsMoment = { λ time. Unit {0} };
-
-    ghost AreFound = { λ name addresses. Unit {0} };
-
-    ghost IsOpening = { λ address socket. Unit {0} };
-
-    ghost IsConnected = { λ socket. Unit {0} };
-
-    ghost octets = { λ socket. None };
+    ghost facts = { record {
+      IsMoment = λ time. Unit {0};
+      HasNoClock = Unit {0};
+      AreFound = λ name addresses. Unit {0};
+      IsOpening = λ address socket. Unit {0};
+      IsConnected = λ socket. Unit {0};
+      IsRefused = λ socket. Unit {0};
+      IsBroken = λ socket. Unit {0};
+      IsIdle = λ socket. Unit {0};
+      IsGivenUp = λ socket. Unit {0};
+      octets = λ socket. None;
+    } };
 
     ghost octets_left = { λ socket cursor. None };
 
@@ -126,14 +144,17 @@ impl<'a, N: Net + Clock> Sockets for TcpSockets<'a, N> {
         found(alloc, self.net, text)
     }
 
-    fn connect(&mut self, token: usize, address: &SocketAddr) -> Option<TcpStream> {
-        match &self.poll {
+    fn connect(&self, token: usize, address: &SocketAddr) -> Option<TcpStream> {
+        let Ok(poll) = self.poll.try_borrow() else {
+            return None;
+        };
+        match &*poll {
             Some(poll) => begin(self.net, poll, token, *address).ok(),
             None => None,
         }
     }
 
-    fn progress(&mut self, socket: &TcpStream) -> ConnectProgress {
+    fn progress(&self, socket: &TcpStream) -> ConnectProgress {
         match socket.take_error() {
             Ok(None) => {}
             Ok(Some(_)) => return ConnectProgress::Refused,
@@ -148,32 +169,29 @@ impl<'a, N: Net + Clock> Sockets for TcpSockets<'a, N> {
 
     fn first(_: &TcpStream) {}
 
-    fn wait(&mut self, most: Duration, ready: &mut [Readiness]) -> bool {
-        let Some(poll) = &mut self.poll else {
+    fn wait(&self, most: Duration, ready: &mut [Readiness]) -> bool {
+        let (Ok(mut poll), Ok(mut events)) = (
+            self.poll.try_borrow_mut(),
+            self.events.try_borrow_mut(),
+        ) else {
             return false;
         };
-        if poll.poll(&mut self.events, Some(most)).is_err() {
-            return false;
+        match &mut *poll {
+            Some(poll) => poll.poll(&mut events, Some(most)).is_ok() && note_all(&events, ready),
+            None => false,
         }
-        let mut is_new = false;
-        for event in &self.events {
-            if let Some(noted) = ready.get_mut(event.token().0) {
-                let now = reported(*noted, event);
-                is_new = is_new || now != *noted;
-                *noted = now;
-            }
-        }
-        is_new
     }
 
-    fn read(&mut self, socket: &TcpStream, _: &mut (), piece: &mut [u8]) -> Transfer {
+    fn read(&self, socket: &TcpStream, _: &mut (), piece: &mut [u8]) -> Transfer {
         acknowledge(socket.as_raw_fd());
         let mut stream = socket;
         transfer(stream.read(piece), piece.len())
     }
 
-    fn write(&mut self, socket: &TcpStream, piece: &[u8]) -> Transfer {
+    fn write(&self, socket: &TcpStream, piece: &[u8]) -> Transfer {
         let mut stream = socket;
         transfer(stream.write(piece), piece.len())
     }
+
+    fn give_up(&self, _: &TcpStream) {}
 }

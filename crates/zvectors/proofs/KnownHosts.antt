@@ -1,18 +1,26 @@
 -- Hosts in memory: whose octets come over the link of a connection, and what is read of them.
-use Rattle.std.proofs.Common.{◌≡◌, ◌⊎◌, ◌∙◌, inl, inr, ⊎_elim, ℕ, zero, suc, ◌+◌, ◌<◌, ◌==◌, Bool, true, false, cond, List, [], ◌∷◌, ◌++◌, length, slice_get, bytes_eq, Option, None, Some, option_map, option_and_then, is_some, refl, sym, ap, subst, add-one, arith}
+use Rattle.std.proofs.Common.{◌≡◌, ◌⊎◌, ◌∙◌, inl, inr, ⊎_elim, ℕ, zero, suc, ◌+◌, ◌<◌, ◌≤◌, ◌==◌, Bool, true, false, cond, List, [], ◌∷◌, ◌++◌, length, slice_get, bytes_eq, Option, None, Some, option_map, option_and_then, is_some, IfSome, refl, sym, ap, subst, add-one, arith}
+use mathlib.Core.HLevel.{⊥_prop}
+use Rattle.std.proofs.Math.Logic.{∥∥₁_elim}
+use Rattle.std.proofs.lemmas.Bool.{cases_lt}
 use Rattle.std.proofs.lemmas.Bool.Decides.{nat_tests}
 use Rattle.std.proofs.lemmas.List.{map-append}
 use Rattle.std.proofs.lemmas.List.Elements.{filter-append}
 use Rattle.std.proofs.lemmas.Slice.Eq.{bytes_eq-Decides}
+use Rattle.std.specs.declared.time.Duration.{Duration}
+use Rattle.std.specs.Duration.{as_nanos}
 use Rattle.std.specs.Io.KnownBytes.{Consumes}
 use Rattle.zorigin.specs.Standings.{Call}
-use Rattle.zoom.specs.Asking.{KnownOctets, CameFirst, Opening, unreached, begun, unsent, WholeTalk, ended_itself, stopped_for_reason as was_stopped, WholeTalkIf, IsConnectionAsked, IsConnectionAskedIf, IsAskedOver}
+use Rattle.zoom.specs.Asking.{KnownOctets, HostClaims, CameFirst, Opening, unreached, begun, unsent, WholeTalk, ended_itself, stopped_for_reason as was_stopped, WholeTalkIf, IsConnectionAsked, IsConnectionAskedIf, IsAskedOver}
 use Rattle.zoom.specs.History.{History, events_on}
-use Rattle.zoom.specs.HostLinks.{IsOwnLink}
+use Rattle.zoom.specs.Connecting.{IsFailed, no_socket, refused, late, AreFailedBelow, IsOwnUnreached, no_text, all_failed, no_clock, no_answer, total_over, given_up, claims_of}
+use Rattle.zoom.specs.Limits.{Limits}
+use Rattle.zoom.specs.HostLinks.{IsTried, IsOwnLink}
 use Rattle.zoom.specs.Metas.{call_events}
 use Rattle.zoom.specs.TalkTraces.{Stage, TalkTrace, beginning, due_sent, message_taken, none_taken, stop_taken, piece_read, input_end}
+use Rattle.zoom.specs.Silence.{IsOver, IsTotalOver, ReadFault, no_clock as fault_no_clock, broken_socket, silent_host, total_over as fault_total_over, given_up as fault_given_up}
 use Rattle.zoom.specs.Transcripts.{Event, Called, Fed, Took, InputEnded, HandedOut, Stopped, fed}
-use Rattle.zvectors.specs.Known.{numbers_below, is_named, sent_from, AreAllNamed, IsSocketOf, IsTaken, IsSentTo, IsFrontSent, IsOwnRead, AreOwnRead}
+use Rattle.zvectors.specs.Known.{numbers_below, is_named, sent_from, AreAllNamed, IsSocketOf, facts_of, IsSentTo, AreAllRefusing, IsRefusedTo, known_host, HasTime, IsFrontSent, IsOwnRead, AreOwnRead}
 
 -- ---- the octets that a connection was fed
 
@@ -50,16 +58,16 @@ fed_talk {c = c} (input_end {more = more} f) =
     ap fed (only_same c Took ((c, InputEnded) ∷ more)) ∙ ap fed (only_same c InputEnded more) ∙ fed_talk f
 
 -- What a whole talk fed came first.
-fed_whole : {q : _} {s : _} {at_once : Bool} {came : KnownOctets} {c : ℕ} {h more : History}
-    → WholeTalk q s at_once came c h more → CameFirst came (fed (events_on c more))
+fed_whole : {fault : Type 0} {q : _} {s : _} {at_once : Bool} {came : KnownOctets} {c : ℕ} {h more : History}
+    → WholeTalk fault q s at_once came c h more → CameFirst came (fed (events_on c more))
 fed_whole {came = came} (ended_itself f first over) = subst (CameFirst came) (sym (fed_talk f)) first
-fed_whole {came = came} {c = c} (was_stopped {more = more} reason f first for cut) =
+fed_whole {came = came} {c = c} (was_stopped {more = more} reason f first for cut faulty) =
     subst (CameFirst came) (sym (ap fed (only_same c (Stopped reason) more) ∙ fed_talk f)) first
 
 -- Opening a connection feeds nothing.
-fed_opening : {IsOwn : KnownOctets → Type 0} {q : _} {s : _} {c : ℕ} {h more : History} {link : Option KnownOctets}
-    → Opening IsOwn q s c h more link → fed (events_on c more) ≡ []
-fed_opening {c = c} unreached = ap fed (only_same c _ [])
+fed_opening : {host : HostClaims} {q : _} {s : _} {c : ℕ} {h more : History} {link : Option KnownOctets}
+    → Opening host q s c h more link → fed (events_on c more) ≡ []
+fed_opening {c = c} (unreached why) = ap fed (only_same c _ [])
 fed_opening {c = c} (begun came calls octets own idle all) =
     ap fed (only_same c (HandedOut octets) (call_events c calls)) ∙ none_fed c calls
 fed_opening {c = c} (unsent came calls octets own idle all) =
@@ -81,44 +89,53 @@ fed_behind (Stopped reason ∷ more) before none = fed_behind more before none
 abbrev IsFedOver : (KnownOctets → Type 0) → List ℕ → Type 0
 IsFedOver IsOwn read = (read ≡ []) ⊎ ((came : KnownOctets) × IsOwn came × CameFirst came read)
 
-fed_over : {IsOwn : KnownOctets → Type 0} {q : _} {s : _} {c : ℕ} {h opened : History} {link : Option KnownOctets}
-    (at_once : Bool) (more : History) → Opening IsOwn q s c h opened link
-    → WholeTalkIf q s at_once c opened link more → IsFedOver IsOwn (fed (events_on c more))
-fed_over {c = c} at_once more unreached none = inl (ap (λ z. fed (events_on c z)) none)
+fed_over : {host : HostClaims} {q : _} {s : _} {c : ℕ} {h opened : History} {link : Option KnownOctets}
+    (at_once : Bool) (more : History) → Opening host q s c h opened link
+    → WholeTalkIf host.IsFaulty q s at_once c opened link more → IsFedOver host.IsOwn (fed (events_on c more))
+fed_over {c = c} at_once more (unreached why) none = inl (ap (λ z. fed (events_on c z)) none)
 fed_over at_once more (begun came calls octets own idle all) talked = inr (came, own, fed_whole talked)
 fed_over {c = c} at_once more (unsent came calls octets own idle all) none =
     inl (ap (λ z. fed (events_on c z)) none)
 
-fed_asked : (IsOwn : KnownOctets → Type 0) {q : _} {s : _} {at_once : Bool} {c : ℕ} {h : History}
-    → IsConnectionAsked IsOwn q s at_once c h → IsFedOver IsOwn (fed (events_on c h))
-fed_asked IsOwn {at_once = at_once} {c = c} t =
-    subst (IsFedOver IsOwn)
+fed_asked : (host : HostClaims) {q : _} {s : _} {at_once : Bool} {c : ℕ} {h : History}
+    → IsConnectionAsked host q s at_once c h → IsFedOver host.IsOwn (fed (events_on c h))
+fed_asked host {at_once = at_once} {c = c} t =
+    subst (IsFedOver host.IsOwn)
     (sym (ap fed (t.mine ∙ only_append c t.more t.opened)
     ∙ fed_behind (events_on c t.more) (events_on c t.opened) (fed_opening t.opening)))
     (fed_over at_once t.more t.opening t.talked)
 
--- ---- what is a link of its own for one reason is one for another
+-- ---- what is said of one host is said of another
 
-opening_for : {IsOwn IsIts : KnownOctets → Type 0} {q : _} {s : _} {c : ℕ} {h more : History}
-    {link : Option KnownOctets} → ((came : KnownOctets) → IsOwn came → IsIts came) → Opening IsOwn q s c h more link
-    → Opening IsIts q s c h more link
-opening_for f unreached = unreached
-opening_for f (begun came calls octets own idle all) = begun came calls octets (f came own) idle all
-opening_for f (unsent came calls octets own idle all) = unsent came calls octets (f came own) idle all
+opening_for : {host other : HostClaims} {q : _} {s : _} {c : ℕ} {h more : History} {link : Option KnownOctets}
+    → ((came : KnownOctets) → host.IsOwn came → other.IsOwn came) → (host.IsUnreached → other.IsUnreached)
+    → Opening host q s c h more link → Opening other q s c h more link
+opening_for f g (unreached why) = unreached (g why)
+opening_for f g (begun came calls octets own idle all) = begun came calls octets (f came own) idle all
+opening_for f g (unsent came calls octets own idle all) = unsent came calls octets (f came own) idle all
 
-asked_for : (IsOwn IsIts : KnownOctets → Type 0) (chosen : Bool) (q : _) (s : _) (at_once : Bool) (c : ℕ) (h : History)
-    → ((came : KnownOctets) → IsOwn came → IsIts came) → IsConnectionAskedIf IsOwn chosen q s at_once c h
-    → IsConnectionAskedIf IsIts chosen q s at_once c h
-asked_for IsOwn IsIts true q s at_once c h f t = record {
+talk_for : {fault other : Type 0} (q : _) (s : _) (at_once : Bool) (c : ℕ) (h more : History) → (fault → other)
+    → (link : Option KnownOctets) → WholeTalkIf fault q s at_once c h link more
+    → WholeTalkIf other q s at_once c h link more
+talk_for q s at_once c h more f None t = t
+talk_for q s at_once c h more f (Some came) (ended_itself t first over) = ended_itself t first over
+talk_for q s at_once c h more f (Some came) (was_stopped reason t first for cut faulty) =
+    was_stopped reason t first for cut (λ is. f (faulty is))
+
+asked_for : (host other : HostClaims) (chosen : Bool) (q : _) (s : _) (at_once : Bool) (c : ℕ) (h : History)
+    → ((came : KnownOctets) → host.IsOwn came → other.IsOwn came) → (host.IsUnreached → other.IsUnreached)
+    → (host.IsFaulty → other.IsFaulty) → IsConnectionAskedIf host chosen q s at_once c h
+    → IsConnectionAskedIf other chosen q s at_once c h
+asked_for host other true q s at_once c h f g k t = record {
   opened = t.opened;
   link = t.link;
-  opening = opening_for f t.opening;
+  opening = opening_for f g t.opening;
   more = t.more;
-  talked = t.talked;
+  talked = talk_for q s at_once c t.opened t.more k t.link t.talked;
   mine = t.mine;
   over = t.over;
 }
-asked_for IsOwn IsIts false q s at_once c h f t = t
+asked_for host other false q s at_once c h f g k t = t
 
 -- ---- numbers that pass a test
 
@@ -146,6 +163,40 @@ passes test (suc n) k a is =
 numbers_more : (test : ℕ → Bool) (n : ℕ)
     → numbers_below test (n + 1) ≡ numbers_below test n ++ cond (test n) (n ∷ []) []
 numbers_more test n = rw (add-one n) refl
+
+within : {A : Type 0} (xs : List A) (i : ℕ) (x : A) → slice_get xs i ≡ Some x → i < length xs
+within [] i x is = absurd cc
+within (y ∷ xs) zero x is = omega arith
+within (y ∷ xs) (suc i) x is = let lt = within xs i x is in omega (arith, lt)
+
+front_in : (xs ys : List ℕ) (k a : ℕ) → slice_get xs k ≡ Some a → slice_get (xs ++ ys) k ≡ Some a
+front_in [] ys k a is = absurd cc
+front_in (x ∷ xs) ys zero a is = is
+front_in (x ∷ xs) ys (suc k) a is = front_in xs ys k a is
+
+last_in : (xs : List ℕ) (a : ℕ) → slice_get (xs ++ a ∷ []) (length xs) ≡ Some a
+last_in [] a = refl
+last_in (x ∷ xs) a = last_in xs a
+
+-- A number that passes the test is in its place.
+listed : (test : ℕ → Bool) (n a : ℕ) → a < n → test a ≡ true → (k : ℕ) × (slice_get (numbers_below test n) k ≡ Some a)
+listed test zero a lt is = absurd (omega (arith, lt))
+listed test (suc n) a lt is = by (λ less. listed test n a less is) (cases_lt a n)
+  where
+    by : (a < n → (k : ℕ) × (slice_get (numbers_below test n) k ≡ Some a)) → (a < n) ⊎ (n ≤ a)
+        → (k : ℕ) × (slice_get (numbers_below test (suc n)) k ≡ Some a)
+    by before (inl less) =
+        let at = before less in
+        (at.0, front_in (numbers_below test n) (cond (test n) (n ∷ []) []) at.0 a at.1)
+    by before (inr past) =
+        let same : n ≡ a = omega (arith, lt, past) in
+        let here : test n ≡ true = subst (λ z. test z ≡ true) (sym same) is in (
+          length (numbers_below test n),
+          subst (λ z. slice_get (numbers_below test n ++ cond z (n ∷ []) []) (length (numbers_below test n)) ≡ Some a)
+              (sym here)
+              (subst (λ z. slice_get (numbers_below test n ++ n ∷ []) (length (numbers_below test n)) ≡ Some z) same
+              (last_in (numbers_below test n) n)),
+        )
 
 -- ---- a table of addresses
 
@@ -175,6 +226,16 @@ socket_is : (address : ℕ) (sent : KnownOctets) (socket : ℕ) → Some socket 
 socket_is address None socket is = absurd cc
 socket_is address (Some octets) socket is = some_same socket address is
 
+-- An address that gave a socket does not refuse, and one that gave none does.
+some_opened : (address socket : ℕ) (sent : KnownOctets) → Some socket ≡ option_map (λ octets. address) sent
+    → is_some sent ≡ false → ⊥
+some_opened address socket None is none = absurd cc
+some_opened address socket (Some octets) is none = absurd cc
+
+none_opened : (address : ℕ) (sent : KnownOctets) → None ≡ option_map (λ octets. address) sent → sent ≡ None
+none_opened address None is = refl
+none_opened address (Some octets) is = absurd cc
+
 -- A front of the octets that are known.
 cut : (octets : List ℕ) (left : KnownOctets) (read : List ℕ) → Consumes (Some octets) left read
     → (rest : List ℕ) × (octets ≡ read ++ rest)
@@ -184,8 +245,7 @@ cut octets (Some rest) read first = (rest, first)
 module _ {Place : Type 0} (places : List Place) (name_of : Place → List ℕ) (sends : Place → Option (List ℕ)) where
   -- The link of a connection's own has all octets of an address of its name.
   own_sent : (name : Option (List ℕ)) (came : KnownOctets)
-      → IsOwnLink (AreAllNamed places name_of sends) (IsSocketOf places name_of sends) (IsTaken places name_of sends)
-      (sent_from places name_of sends) name came → IsSentTo places name_of sends name came
+      → IsOwnLink (facts_of places name_of sends) name came → IsSentTo places name_of sends name came
   own_sent None came link = link
   own_sent (Some name) came link =
       let tried = link.opened.tried in
@@ -219,26 +279,95 @@ module _ {Place : Type 0} (places : List Place) (name_of : Place → List ℕ) (
       record { octets = own.0; sent = own.1; rest = rest.0; front = rest.1 }
 
   own_read : (name : Option (List ℕ)) (q : _) (s : _) (at_once : Bool) (c : ℕ) (h : History)
-      → IsConnectionAskedIf (IsSentTo places name_of sends name) (is_some name) q s at_once c h
+      → IsConnectionAskedIf (known_host places name_of sends name) (is_some name) q s at_once c h
       → IsOwnRead places name_of sends name (fed (events_on c h))
   own_read None q s at_once c h t = ap fed t
   own_read (Some name) q s at_once c h t =
       ⊎_elim (λ none. inl none) (λ r. inr (front_sent name r.0 (fed (events_on c h)) r.1 r.2))
-      (fed_asked (IsSentTo places name_of sends (Some name)) t)
+      (fed_asked (known_host places name_of sends (Some name)) t)
 
-  -- The connections are asked over these octets, and read fronts of them.
-  pub asked_known : (names : ℕ → Option (List ℕ)) (q : _) (s : _) (at_once : Bool) (meta : _)
-      → IsAskedOver (λ c. IsOwnLink (AreAllNamed places name_of sends) (IsSocketOf places name_of sends)
-      (IsTaken places name_of sends) (sent_from places name_of sends) (names c))
-      q s at_once (λ c. is_some (names c)) meta
-      → (asked : IsAskedOver (λ c. IsSentTo places name_of sends (names c)) q s at_once (λ c. is_some (names c)) meta)
-      × AreOwnRead places name_of sends names (length q) asked.history
-  asked_known names q s at_once meta over =
-      let each : (c : ℕ) → c < length q → IsConnectionAskedIf (IsSentTo places name_of sends (names c))
-      (is_some (names c)) q s at_once c over.history = λ c lt. asked_for
-      (IsOwnLink (AreAllNamed places name_of sends) (IsSocketOf places name_of sends) (IsTaken places name_of sends)
-      (sent_from places name_of sends) (names c)) (IsSentTo places name_of sends (names c)) (is_some (names c)) q s
-      at_once c over.history (own_sent (names c)) (over.each c lt) in (
-        record { history = over.history; after = over.after; each = each },
-        λ c lt. own_read (names c) q s at_once c over.history (each c lt),
-      )
+  -- ---- no limit is reached
+
+  module _ (limits : Limits) (begun : Duration) (allowed : HasTime limits) where
+    -- The clock stands still.
+    not_over : (span since now : Duration) → 0 < as_nanos span → as_nanos now ≡ 0 → IsOver since now span → ⊥
+    not_over span since now some still over = absurd (omega (arith, some, still, over))
+
+    total_open : (total : Option Duration) → IfSome total (λ t. 0 < as_nanos t) → (t : Duration) → total ≡ Some t
+        → 0 < as_nanos t
+    total_open None all t is = absurd cc
+    total_open (Some x) all t is = subst (λ z. 0 < as_nanos z) (some_same x t is) all
+
+    not_total : (now : Duration) → as_nanos now ≡ 0 → IsTotalOver limits begun now → ⊥
+    not_total now still over =
+        not_over over.0 begun now (total_open limits.total allowed.1 over.0 over.1) still over.2
+
+    no_fault : ReadFault (facts_of places name_of sends) limits begun → ⊥
+    no_fault (fault_no_clock none) = none
+    no_fault (broken_socket socket none) = none
+    no_fault (silent_host since now first last over) = not_over limits.patience since now allowed.0 last over
+    no_fault (fault_total_over now last over) = not_total now last over
+    no_fault (fault_given_up socket gone none) = none
+
+    -- The address of a socket does not refuse it.
+    not_refused : (addresses : List ℕ) (place socket : ℕ)
+        → IsTried (IsSocketOf places name_of sends) addresses place (Some socket)
+        → is_some (sent_from places name_of sends socket) ≡ false → ⊥
+    not_refused addresses place socket tried denied =
+        let same : socket ≡ tried.address =
+        socket_is tried.address (sent_from places name_of sends tried.address) socket tried.opening in
+        some_opened tried.address socket (sent_from places name_of sends tried.address) tried.opening
+        (subst (λ z. is_some (sent_from places name_of sends z) ≡ false) same denied)
+
+    -- Connecting to an address fails only if it refuses.
+    failed_none : (addresses : List ℕ) (place address : ℕ) → slice_get addresses place ≡ Some address
+        → IsFailed (facts_of places name_of sends) addresses place → sent_from places name_of sends address ≡ None
+    failed_none addresses place address there (no_socket tried) =
+        let same : tried.address ≡ address = some_same tried.address address (sym tried.there ∙ there) in
+        subst (λ z. sent_from places name_of sends z ≡ None) same
+        (none_opened tried.address (sent_from places name_of sends tried.address) tried.opening)
+    failed_none addresses place address there (refused socket tried denied) =
+        absurd (not_refused addresses place socket tried denied)
+    failed_none addresses place address there (late socket tried since now first last passed) =
+        ⊎_elim (λ still. absurd (omega (arith, still, passed))) (λ none. absurd none) last
+
+    all_refuse : (name addresses : List ℕ) → AreAllNamed places name_of sends name addresses
+        → AreFailedBelow (facts_of places name_of sends) addresses (length addresses)
+        → AreAllRefusing places name_of sends name
+    all_refuse name addresses found fails number place there named =
+        let test : ℕ → Bool = λ n. is_named name_of name (slice_get places n) in
+        let is : test number ≡ true = ap (is_named name_of name) there ∙ (bytes_eq-Decides (name_of place) name).1 named in
+        let at = listed test (length places) number (within places number place there) is in
+        let among : slice_get addresses at.0 ≡ Some number =
+        subst (λ z. slice_get z at.0 ≡ Some number) (sym found) at.1 in
+        let refuses = failed_none addresses at.0 number among (fails at.0 (within addresses at.0 number among)) in
+        sym (ap (option_and_then sends) there) ∙ refuses
+
+    unreached_for : (name : Option (List ℕ)) → IsOwnUnreached (facts_of places name_of sends) limits begun false name
+        → IsRefusedTo places name_of sends name
+    unreached_for None why = why
+    unreached_for (Some name) (no_text none) = inl none
+    unreached_for (Some name) (all_failed addresses found fails) = inr (all_refuse name addresses found fails)
+    unreached_for (Some name) (no_clock none) = absurd none
+    unreached_for (Some name) (no_answer started now first last over) =
+        absurd (not_over limits.patience started now allowed.0 last over)
+    unreached_for (Some name) (total_over now last over) = absurd (not_total now last over)
+    unreached_for (Some name) (given_up addresses found socket to left) =
+        ⊎_elim (λ once. absurd cc)
+        (λ r. ⊎_elim (λ none. absurd none) (λ denied. absurd (not_refused addresses to.place socket to.tried denied)) r) left.1
+
+    -- The connections are asked over these octets, and read fronts of them.
+    pub asked_known : (names : ℕ → Option (List ℕ)) (q : _) (s : _) (meta : _)
+        → IsAskedOver (λ c. claims_of (facts_of places name_of sends) limits begun false (names c)) q s false
+        (λ c. is_some (names c)) meta
+        → (asked : IsAskedOver (λ c. known_host places name_of sends (names c)) q s false (λ c. is_some (names c)) meta)
+        × AreOwnRead places name_of sends names (length q) asked.history
+    asked_known names q s meta over =
+        let each : (c : ℕ) → c < length q → IsConnectionAskedIf (known_host places name_of sends (names c))
+        (is_some (names c)) q s false c over.history = λ c lt. asked_for
+        (claims_of (facts_of places name_of sends) limits begun false (names c))
+        (known_host places name_of sends (names c)) (is_some (names c)) q s false c over.history (own_sent (names c))
+        (unreached_for (names c)) (λ why. ∥∥₁_elim why ⊥_prop no_fault) (over.each c lt) in (
+          record { history = over.history; after = over.after; each = each },
+          λ c lt. own_read (names c) q s false c over.history (each c lt),
+        )

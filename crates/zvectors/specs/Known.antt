@@ -1,6 +1,9 @@
 -- Hosts in memory of which all octets are known, and what is read of each.
-use Rattle.std.specs.Prelude.{◌≡◌, ◌⊎◌, ℕ, zero, suc, ◌<◌, Bool, true, false, cond, List, [], ◌∷◌, ◌++◌, length, drop, slice_get, bytes_eq, Option, None, Some, is_some, option_map, option_and_then}
-use Rattle.zoom.specs.Asking.{KnownOctets}
+use Rattle.std.specs.Prelude.{◌≡◌, ◌⊎◌, ℕ, zero, suc, ◌<◌, Bool, true, false, cond, List, [], ◌∷◌, ◌++◌, length, drop, slice_get, bytes_eq, Option, None, Some, is_some, option_map, option_and_then, IfSome, IsUtf8}
+use Rattle.std.specs.Duration.{as_nanos}
+use Rattle.zoom.specs.Asking.{KnownOctets, HostClaims}
+use Rattle.zoom.specs.Limits.{Limits}
+use Rattle.zoom.specs.SocketFacts.{SocketFacts}
 use Rattle.zoom.specs.History.{History, events_on}
 use Rattle.zoom.specs.Transcripts.{fed}
 
@@ -8,6 +11,10 @@ use Rattle.zoom.specs.Transcripts.{fed}
 abbrev pub numbers_below : (ℕ → Bool) → ℕ → List ℕ
 numbers_below test zero = []
 numbers_below test (suc n) = numbers_below test n ++ cond (test n) (n ∷ []) []
+
+-- some time is allowed
+abbrev pub HasTime : Limits → Type 0
+HasTime limits = (0 < as_nanos limits.patience) × IfSome limits.total (λ total. 0 < as_nanos total)
 
 -- whether there is an address, and it has this name
 abbrev pub is_named : {Place : Type 0} → (Place → List ℕ) → List ℕ → Option Place → Bool
@@ -38,6 +45,21 @@ module _ {Place : Type 0} (places : List Place) (name_of : Place → List ℕ) (
   abbrev pub IsTaken : ℕ → Type 0
   IsTaken socket = is_some (sent_from socket) ≡ true
 
+  -- what the calls of sockets to them give, under a clock that stands still
+  abbrev pub facts_of : SocketFacts ℕ ℕ
+  facts_of = record {
+    IsMoment = λ time. as_nanos time ≡ 0;
+    HasNoClock = ⊥;
+    AreFound = AreAllNamed;
+    IsOpening = IsSocketOf;
+    IsConnected = IsTaken;
+    IsRefused = λ socket. is_some (sent_from socket) ≡ false;
+    IsBroken = λ socket. ⊥;
+    IsIdle = λ socket. ⊥;
+    IsGivenUp = λ socket. Unit {0};
+    octets = sent_from;
+  }
+
   -- These are all octets of an address of this name.
   pub record IsSentBy (name octets : List ℕ) : Type 0 where
     pub number : ℕ
@@ -50,6 +72,21 @@ module _ {Place : Type 0} (places : List Place) (name_of : Place → List ℕ) (
   abbrev pub IsSentTo : Option (List ℕ) → KnownOctets → Type 0
   IsSentTo None came = ⊥
   IsSentTo (Some name) came = (octets : List ℕ) × IsSentBy name octets × (came ≡ Some octets)
+
+  -- each address of this name refuses
+  abbrev pub AreAllRefusing : List ℕ → Type 0
+  AreAllRefusing name =
+      (number : ℕ) (place : Place) → slice_get places number ≡ Some place → name_of place ≡ name → sends place ≡ None
+
+  -- a connection's own name is not a text, or each address of it refuses
+  abbrev pub IsRefusedTo : Option (List ℕ) → Type 0
+  IsRefusedTo None = ⊥
+  IsRefusedTo (Some name) = (IsUtf8 name → ⊥) ⊎ AreAllRefusing name
+
+  -- What is said of asking the host of a connection's own name: all its octets come, and no read fails. If it is not
+  -- reached, each of its addresses refuses.
+  abbrev pub known_host : Option (List ℕ) → HostClaims
+  known_host name = record { IsOwn = IsSentTo name; IsUnreached = IsRefusedTo name; IsFaulty = ⊥ }
 
   -- What was read is a front of all octets of an address of this name.
   pub record IsFrontSent (name read : List ℕ) : Type 0 where

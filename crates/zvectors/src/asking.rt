@@ -2,7 +2,7 @@
 ghost use Rattle.std.specs.Prelude.{◌≡◌, ◌+◌, [], length, IfOk, OnOk};
 ghost use Rattle.zoom.specs.Askable.{IsAskable, AreAskable};
 
-use crate::peers::{Peer, Peers};
+use crate::peers::{Peer, Peers, PeersState};
 use bytes::Bytes;
 use std::alloc::Global;
 use std::process::Abort;
@@ -259,18 +259,18 @@ fn end_of(
     peers: &[Peer],
     limits: Limits,
     at_once: bool,
-) -> Result<(String, Peers), Unread> {
+) -> Result<(String, PeersState), Unread> {
     let Ok(peers) = Peers::new(alloc, peers) else {
         return Err(Unread);
     };
     let network = Network::new(alloc, peers);
     match asked_text(alloc, &network, limits, at_once) {
-        Ok(text) => Ok((text, network.into_sockets())),
+        Ok(text) => Ok((text, network.into_sockets().into_state())),
         Err(error) => Err(error),
     }
 }
 
-fn end_of_case(alloc: Global, case: &str, at_once: bool) -> Result<(String, Peers), Unread> {
+fn end_of_case(alloc: Global, case: &str, at_once: bool) -> Result<(String, PeersState), Unread> {
     let (peers, limits) = split_row(case, " | ");
     match (peers_of(alloc, peers), limits_of(limits)) {
         (Ok(peers), Ok(limits)) => end_of(alloc, peers.as_slice(), limits, at_once),

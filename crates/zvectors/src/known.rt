@@ -1,16 +1,16 @@
 // Hosts in memory of which all octets are known. What is read of each is a front of its own octets.
 ghost use Rattle.std.specs.Prelude.{◌≡◌, ◌<◌, ◌≤◌, ◌^◌, ◌++◌, ℕ, false, [], length, take, drop, IfOk, bytes_eq, option_copied};
-ghost use Rattle.std.specs.Duration.{as_nanos};
 ghost use Rattle.zoom.specs.Asking.{is_present, IsAskedOver};
 ghost use Rattle.zoom.specs.Askable.{AreAskable, AreFit};
-ghost use Rattle.zoom.specs.HostLinks.{IsBoundedTransfer, IsConnectedIf, AfterReadFrom};
+ghost use Rattle.zoom.specs.HostLinks.{IsBoundedTransfer, IsBrokenIf, AfterProgress, AfterReadFrom, AfterTransfer};
 ghost use Rattle.zoom.specs.TalksAmong.{halves_at};
-ghost use Rattle.zvectors.specs.Known.{sent_from, sent_after, AreAllNamed, IsSocketOf, IsTaken, IsSentTo, AreOwnRead};
+ghost use Rattle.zvectors.specs.Known.{sent_from, sent_after, facts_of, known_host, HasTime, AreOwnRead};
 
 mod rows;
 
 use bytes::Bytes;
 use std::alloc::{AllocError, Global};
+use std::cell::RefCell;
 use std::marker::{Brand, PhantomData};
 use std::time::Duration;
 use zoom::{
@@ -49,8 +49,8 @@ impl Places for Brand {
 #[derive(Drop)]
 struct KnownHosts<K: Places> {
     places: Vec<Place>,
-    /// How many octets of each address were not read.
-    left: Vec<usize>,
+    /// How many octets of each address were not read. Each call borrows this for itself alone.
+    left: RefCell<Vec<usize>>,
     of: PhantomData<K>,
     ghost same: { places.items ≡ K.places },
 }
@@ -65,7 +65,7 @@ impl<K: Places> KnownHosts<K> {
         }
         Ok(KnownHosts {
             places,
-            left,
+            left: RefCell::new(left),
             of: PhantomData,
         })
     }
@@ -130,15 +130,7 @@ impl<K: Places> Sockets for KnownHosts<K> {
 
     type Cursor = usize;
 
-    ghost IsMoment = { λ time. as_nanos time ≡ 0 };
-
-    ghost AreFound = { AreAllNamed K.places (λ p. p.name) (λ p. p.sends) };
-
-    ghost IsOpening = { IsSocketOf K.places (λ p. p.name) (λ p. p.sends) };
-
-    ghost IsConnected = { IsTaken K.places (λ p. p.name) (λ p. p.sends) };
-
-    ghost octets = { sent_from K.places (λ p. p.name) (λ p. p.sends) };
+    ghost facts = { facts_of K.places (λ p. p.name) (λ p. p.sends) };
 
     ghost octets_left = { sent_after K.places (λ p. p.name) (λ p. p.sends) };
 
@@ -156,14 +148,14 @@ impl<K: Places> Sockets for KnownHosts<K> {
         Ok(found)
     }
 
-    fn connect(&mut self, _: usize, address: &usize) -> Option<usize> {
+    fn connect(&self, _: usize, address: &usize) -> Option<usize> {
         match self.octets_from(*address) {
             Some(_) => Some(*address),
             None => None,
         }
     }
 
-    fn progress(&mut self, socket: &usize) -> ConnectProgress {
+    fn progress(&self, socket: &usize) -> ConnectProgress {
         match self.octets_from(*socket) {
             Some(_) => ConnectProgress::Connected,
             None => ConnectProgress::Refused,
@@ -174,7 +166,7 @@ impl<K: Places> Sockets for KnownHosts<K> {
         0
     }
 
-    fn wait(&mut self, _: Duration, ready: &mut [Readiness]) -> bool {
+    fn wait(&self, _: Duration, ready: &mut [Readiness]) -> bool {
         let all = Readiness {
             readable: true,
             writable: true,
@@ -188,20 +180,24 @@ impl<K: Places> Sockets for KnownHosts<K> {
         is_new
     }
 
-    fn read(&mut self, socket: &usize, cursor: &mut usize, piece: &mut [u8]) -> Transfer {
+    fn read(&self, socket: &usize, cursor: &mut usize, piece: &mut [u8]) -> Transfer {
         let Some(octets) = self.octets_from(*socket) else {
-            return Transfer::Failure;
+            return Transfer::Octets(0);
         };
         let count = give(octets, cursor, piece);
-        if let Some(left) = self.left.get_mut(*socket) {
+        if let Ok(mut all) = self.left.try_borrow_mut()
+            && let Some(left) = all.get_mut(*socket)
+        {
             *left = left.saturating_sub(count);
         }
         Transfer::Octets(count)
     }
 
-    fn write(&mut self, _: &usize, piece: &[u8]) -> Transfer {
+    fn write(&self, _: &usize, piece: &[u8]) -> Transfer {
         Transfer::Octets(piece.len())
     }
+
+    fn give_up(&self, _: &usize) {}
 }
 
 /// Does what `ask_known` does, over the addresses that there are.
@@ -218,8 +214,9 @@ fn ask_places<K: Places>(
     requires askable { AreAskable questions.items }
     requires fit { AreFit settings }
     requires equal { length addresses.now ≡ length questions.items }
+    requires time { HasTime limits }
     ensures read { IfOk result (λ made. (asked : IsAskedOver
-        (λ c. IsSentTo K.places (λ p. p.name) (λ p. p.sends) (halves_at addresses.now c))
+        (λ c. known_host K.places (λ p. p.name) (λ p. p.sends) (halves_at addresses.now c))
         questions.items settings false (is_present addresses.now) made.0)
         × AreOwnRead K.places (λ p. p.name) (λ p. p.sends) (halves_at addresses.now) (length questions.items)
         asked.history) }
@@ -229,11 +226,12 @@ fn ask_places<K: Places>(
     let meta = ask_over(
         alloc, &network, questions, settings, addresses, limits, watch,
     )?;
-    Ok((meta, network.into_sockets().left))
+    Ok((meta, network.into_sockets().left.into_inner()))
 }
 
 /// Asks in order over hosts in memory. Each connection with a link is asked over all octets of an address of its own
-/// name, and what it read is a front of them. Returns also how many octets of each address were not read.
+/// name, and what it read is a front of them. No connection is stopped for `Read`, and none for `Connect` unless each
+/// address of its name refuses. Returns also how many octets of each address were not read.
 fn ask_known(
     alloc: Global,
     places: Vec<Place>,
@@ -246,8 +244,9 @@ fn ask_known(
     requires askable { AreAskable questions.items }
     requires fit { AreFit settings }
     requires equal { length addresses.now ≡ length questions.items }
+    requires time { HasTime limits }
     ensures read { IfOk result (λ made. (asked : IsAskedOver
-        (λ c. IsSentTo places.items (λ p. p.name) (λ p. p.sends) (halves_at addresses.now c))
+        (λ c. known_host places.items (λ p. p.name) (λ p. p.sends) (halves_at addresses.now c))
         questions.items settings false (is_present addresses.now) made.0)
         × AreOwnRead places.items (λ p. p.name) (λ p. p.sends) (halves_at addresses.now) (length questions.items)
         asked.history) }

@@ -1,8 +1,9 @@
 // Hosts in memory, under a clock that only waiting moves.
 ghost use Rattle.std.specs.Prelude.{length, None};
-ghost use Rattle.zoom.specs.HostLinks.{IsBoundedTransfer};
+ghost use Rattle.zoom.specs.HostLinks.{IsBoundedTransfer, AfterReadFrom};
 
 use std::alloc::{AllocError, Global};
+use std::cell::RefCell;
 use std::time::Duration;
 use zoom::{ConnectProgress, Readiness, Sockets, Transfer};
 
@@ -94,9 +95,9 @@ impl Peer {
     }
 }
 
-/// Hosts in memory.
+/// How hosts in memory stand.
 #[derive(Drop)]
-pub(crate) struct Peers {
+pub(crate) struct PeersState {
     peers: Vec<Peer>,
     /// The octets that each took.
     pub(crate) taken: Vec<Vec<u8>>,
@@ -107,14 +108,14 @@ pub(crate) struct Peers {
     pub(crate) moves: u64,
 }
 
-impl Peers {
+impl PeersState {
     /// These hosts, at time 0.
-    pub(crate) fn new(alloc: Global, peers: &[Peer]) -> Result<Peers, AllocError> {
+    fn new(alloc: Global, peers: &[Peer]) -> Result<PeersState, AllocError> {
         let mut taken = Vec::new(alloc);
         for _ in peers {
             taken.push(Vec::new(alloc))?;
         }
-        Ok(Peers {
+        Ok(PeersState {
             peers: peers.to_vec(alloc)?,
             taken,
             time: 0,
@@ -123,58 +124,13 @@ impl Peers {
             moves: 0,
         })
     }
-}
 
-impl Sockets for Peers {
-    type Address = usize;
-
-    type Socket = usize;
-
-    type Cursor = usize;
-
-    ghost IsMoment = { λ time. Unit {0} };
-
-    ghost AreFound = { λ name addresses. Unit {0} };
-
-    ghost IsOpening = { λ address socket. Unit {0} };
-
-    ghost IsConnected = { λ socket. Unit {0} };
-
-    ghost octets = { λ socket. None };
-
-    ghost octets_left = { λ socket cursor. None };
-
-    fn now(&self) -> Option<Duration> {
-        Some(Duration::from_millis(self.time))
-    }
-
-    fn resolve(&self, alloc: Global, text: &str) -> Result<Vec<usize>, AllocError> {
-        let mut found = Vec::new(alloc);
-        for i in 0..self.peers.len() {
-            if text.as_bytes() == [self.peers[i].name].as_slice() {
-                found.push(i)?;
-            }
-        }
-        Ok(found)
-    }
-
-    fn connect(&mut self, token: usize, address: &usize) -> Option<usize> {
+    fn connect(&mut self, token: usize, address: usize) -> Option<usize> {
         let time = self.time;
-        let peer = self.peers.get_mut(*address)?;
+        let peer = self.peers.get_mut(address)?;
         peer.token = token;
         peer.answers = time.saturating_add(peer.connects);
-        Some(*address)
-    }
-
-    fn progress(&mut self, socket: &usize) -> ConnectProgress {
-        match self.peers.get(*socket) {
-            Some(peer) if !peer.refuses => ConnectProgress::Connected,
-            _ => ConnectProgress::Refused,
-        }
-    }
-
-    fn first(_: &usize) -> usize {
-        0
+        Some(address)
     }
 
     fn wait(&mut self, most: Duration, ready: &mut [Readiness]) -> bool {
@@ -200,10 +156,13 @@ impl Sockets for Peers {
         is_new
     }
 
-    fn read(&mut self, socket: &usize, cursor: &mut usize, piece: &mut [u8]) -> Transfer {
+    fn read(&mut self, socket: usize, cursor: &mut usize, piece: &mut [u8]) -> Transfer
+        ensures bound { IsBoundedTransfer result (length piece.new) }
+        ensures octets { AfterReadFrom None None result piece.new }
+    {
         self.moves = self.moves.saturating_add(1);
         let time = self.time;
-        let Some(peer) = self.peers.get(*socket) else {
+        let Some(peer) = self.peers.get(socket) else {
             return Transfer::Failure;
         };
         let count = peer.give(time, cursor, piece).min(piece.len());
@@ -214,9 +173,11 @@ impl Sockets for Peers {
         }
     }
 
-    fn write(&mut self, socket: &usize, piece: &[u8]) -> Transfer {
+    fn write(&mut self, socket: usize, piece: &[u8]) -> Transfer
+        ensures { IsBoundedTransfer result (length piece.now) }
+    {
         self.moves = self.moves.saturating_add(1);
-        let Some(peer) = self.peers.get(*socket) else {
+        let Some(peer) = self.peers.get(socket) else {
             return Transfer::Failure;
         };
         if peer.takes > self.time {
@@ -224,7 +185,7 @@ impl Sockets for Peers {
         }
         // It takes at most two octets at a time.
         let count = piece.len().min(2);
-        let Some(taken) = self.taken.get_mut(*socket) else {
+        let Some(taken) = self.taken.get_mut(socket) else {
             return Transfer::Failure;
         };
         match taken.extend_from_slice(&piece[..count]) {
@@ -232,4 +193,110 @@ impl Sockets for Peers {
             Err(_) => Transfer::Failure,
         }
     }
+}
+
+/// Hosts in memory. Each call borrows their state for itself alone.
+#[derive(Drop)]
+pub(crate) struct Peers {
+    state: RefCell<PeersState>,
+}
+
+impl Peers {
+    /// These hosts, at time 0.
+    pub(crate) fn new(alloc: Global, peers: &[Peer]) -> Result<Peers, AllocError> {
+        let state = RefCell::new(PeersState::new(alloc, peers)?);
+        Ok(Peers { state })
+    }
+
+    /// How they stand in the end.
+    pub(crate) fn into_state(self) -> PeersState {
+        self.state.into_inner()
+    }
+}
+
+impl Sockets for Peers {
+    type Address = usize;
+
+    type Socket = usize;
+
+    type Cursor = usize;
+
+    ghost facts = { record {
+      IsMoment = λ time. Unit {0};
+      HasNoClock = Unit {0};
+      AreFound = λ name addresses. Unit {0};
+      IsOpening = λ address socket. Unit {0};
+      IsConnected = λ socket. Unit {0};
+      IsRefused = λ socket. Unit {0};
+      IsBroken = λ socket. Unit {0};
+      IsIdle = λ socket. Unit {0};
+      IsGivenUp = λ socket. Unit {0};
+      octets = λ socket. None;
+    } };
+
+    ghost octets_left = { λ socket cursor. None };
+
+    fn now(&self) -> Option<Duration> {
+        match self.state.try_borrow() {
+            Ok(state) => Some(Duration::from_millis(state.time)),
+            Err(_) => None,
+        }
+    }
+
+    fn resolve(&self, alloc: Global, text: &str) -> Result<Vec<usize>, AllocError> {
+        let mut found = Vec::new(alloc);
+        let Ok(state) = self.state.try_borrow() else {
+            return Ok(found);
+        };
+        for i in 0..state.peers.len() {
+            if text.as_bytes() == [state.peers[i].name].as_slice() {
+                found.push(i)?;
+            }
+        }
+        Ok(found)
+    }
+
+    fn connect(&self, token: usize, address: &usize) -> Option<usize> {
+        match self.state.try_borrow_mut() {
+            Ok(mut state) => state.connect(token, *address),
+            Err(_) => None,
+        }
+    }
+
+    fn progress(&self, socket: &usize) -> ConnectProgress {
+        let Ok(state) = self.state.try_borrow() else {
+            return ConnectProgress::Refused;
+        };
+        match state.peers.get(*socket) {
+            Some(peer) if !peer.refuses => ConnectProgress::Connected,
+            _ => ConnectProgress::Refused,
+        }
+    }
+
+    fn first(_: &usize) -> usize {
+        0
+    }
+
+    fn wait(&self, most: Duration, ready: &mut [Readiness]) -> bool {
+        match self.state.try_borrow_mut() {
+            Ok(mut state) => state.wait(most, ready),
+            Err(_) => false,
+        }
+    }
+
+    fn read(&self, socket: &usize, cursor: &mut usize, piece: &mut [u8]) -> Transfer {
+        match self.state.try_borrow_mut() {
+            Ok(mut state) => state.read(*socket, cursor, piece),
+            Err(_) => Transfer::Failure,
+        }
+    }
+
+    fn write(&self, socket: &usize, piece: &[u8]) -> Transfer {
+        match self.state.try_borrow_mut() {
+            Ok(mut state) => state.write(*socket, piece),
+            Err(_) => Transfer::Failure,
+        }
+    }
+
+    fn give_up(&self, _: &usize) {}
 }

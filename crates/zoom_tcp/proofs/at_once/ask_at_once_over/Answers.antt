@@ -1,27 +1,14 @@
-use Rattle.std.proofs.Common.{◌≡◌, ◌∙◌, [], ap, length, refl, sym, subst, rules}
-use Rattle.zoom_pool.specs.Metas.{MetaAfter}
+use Rattle.std.proofs.Common.{true}
 use Rattle.zoom_io.specs.TalksAmong.{halves_at}
-use Rattle.zoom_tcp.specs.Connecting.{IsAttempt}
-use Rattle.zoom_tcp.specs.HostLinks.{IsOwnLink}
-use Rattle.zoom_tcp.specs.HostTalks.{AreAllBegun}
-use Rattle.zoom_tcp.proofs.HostTalks.{asked_at_once}
+use Rattle.zoom_tcp.specs.Asking.{is_present, IsAskedOver}
+use Rattle.zoom_tcp.specs.Connecting.{IsSeen, claims_of}
+use Rattle.zoom_tcp.proofs.InOrder.{ok_since}
 use Rattle.zoom_tcp.proofs.at_once.ask_at_once_over.Goals as goal
 
 pub returns : goal.returns
-returns g c =
-    let after = subst (λ z. MetaAfter z c.args.settings [] c.in_ok-meta.meta) c.from_vec.ensures c.in_ok-meta.ensures.after in
-    let same : c.deref_mut.result.now ≡ c.in_ok-talks.talks.items = search rules in
-    let size : length c.talk_with_all-talked.new.talks ≡ length c.args.questions.items =
-    c.talk_with_all-talked.ensures.hosts ∙ ap length same ∙ c.in_ok-talks.ensures.size ∙ c.in_ok-attempts.ensures.size
-    ∙ c.requires.equal in
-    record {
-      asked = asked_at_once c.in_ok-attempts.attempts.items c.deref_mut.result.now c.talk_with_all-talked.new.talks _ refl
-          (λ a. refl)
-          (λ name a. IsAttempt g.S.Sockets.AreFound g.S.Sockets.IsOpening g.S.Sockets.IsConnected name a.addresses.items a.stage)
-          (IsOwnLink g.S.Sockets.AreFound g.S.Sockets.IsOpening g.S.Sockets.IsConnected g.S.Sockets.octets)
-          c.args.questions.items c.args.settings (halves_at c.args.addresses.now) c.in_ok-meta.meta
-          c.talk_with_all-talked.new.meta after size
-          (subst (λ z. AreAllBegun c.in_ok-attempts.attempts.items z) (sym same) c.in_ok-talks.ensures.begun)
-          c.in_ok-attempts.ensures.named c.in_ok-attempts.ensures.own c.in_ok-talked.ensures.talks
-          c.in_ok-talked.ensures.over;
-    }
+returns g c = record {
+  asked = ok_since c.ask_at_once_since.result (IsSeen g.S.Sockets.facts)
+      (λ begun meta. IsAskedOver (λ i. claims_of g.S.Sockets.facts c.args.limits begun true (halves_at c.args.addresses.now i))
+      c.args.questions.items c.args.settings true (is_present c.args.addresses.now) meta)
+      c.time_or-begun.result c.time_or-begun.ensures c.ask_at_once_since.ensures.asked;
+}

@@ -25,11 +25,11 @@ loop-i-preserved g c =
           (present_push xs addresses x c.loop-i.invariant.1
           (c.in_ok-attempt_if.ensures.named ∙ sym here ∙ ap (is_present addresses) (sym as_long)) k
           (omega (arith, lt, longer, more))),
-      subst (λ z. AreAttempts (halves_at addresses) z (λ name a. IsAttempt g.S.Sockets.AreFound g.S.Sockets.IsOpening g.S.Sockets.IsConnected name a.addresses.items a.stage))
+      subst (λ z. AreAttempts (halves_at addresses) z (λ name a. IsAttempt g.S.Sockets.facts g.K.Limited.limits g.K.Limited.begun g.K.Limited.at_once name a.addresses.items a.place a.started a.stage))
           (sym pushed)
-          (attempts_push xs x (λ name a. IsAttempt g.S.Sockets.AreFound g.S.Sockets.IsOpening g.S.Sockets.IsConnected name a.addresses.items a.stage)
+          (attempts_push xs x (λ name a. IsAttempt g.S.Sockets.facts g.K.Limited.limits g.K.Limited.begun g.K.Limited.at_once name a.addresses.items a.place a.started a.stage)
           (halves_at addresses) c.loop-i.invariant.2
-          (subst (λ z. IsFitIf z x (λ name a. IsAttempt g.S.Sockets.AreFound g.S.Sockets.IsOpening g.S.Sockets.IsConnected name a.addresses.items a.stage))
+          (subst (λ z. IsFitIf z x (λ name a. IsAttempt g.S.Sockets.facts g.K.Limited.limits g.K.Limited.begun g.K.Limited.at_once name a.addresses.items a.place a.started a.stage))
           (sym (subst (λ z. halves_at addresses z ≡ c.index-addresses-i.result) (sym as_long) place))
           c.in_ok-attempt_if.ensures.own)),
     )

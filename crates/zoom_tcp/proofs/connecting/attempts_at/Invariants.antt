@@ -9,4 +9,4 @@ invariant-loop-i g l =
     (length l.attempts.items ≡ l.i)
     × ((c : ℕ) → c < length l.attempts.items → is_present l.attempts.items c ≡ is_present l.addresses c)
     × AreAttempts (halves_at l.addresses) l.attempts.items
-    (λ name a. IsAttempt g.S.Sockets.AreFound g.S.Sockets.IsOpening g.S.Sockets.IsConnected name a.addresses.items a.stage)
+    (λ name a. IsAttempt g.S.Sockets.facts g.K.Limited.limits g.K.Limited.begun g.K.Limited.at_once name a.addresses.items a.place a.started a.stage)

@@ -1,4 +1,4 @@
-use Rattle.std.proofs.Common.{◌∙◌, ◌<◌, length, get_or, refl, rules}
+use Rattle.std.proofs.Common.{◌∙◌, ◌<◌, length, get_or, rules}
 use Rattle.std.proofs.Math.ListN.{length-set}
 use Rattle.std.proofs.lemmas.Option.{slice_get-get_or}
 use Rattle.zoom_tcp.specs.Connecting.{IsAttempt}
@@ -16,5 +16,5 @@ loop-i-preserved g c =
       length-set at.attempts at.i new ∙ at.invariant.0,
       λ k. present_set at.attempts at.i was new is c.advance_if.ensures.named k ∙ at.invariant.1 k,
       λ names all. attempts_set at.attempts at.i was new
-          (λ name a. IsAttempt g.S.Sockets.AreFound g.S.Sockets.IsOpening g.S.Sockets.IsConnected name a.addresses.items a.stage) is c.advance_if.ensures.own names (at.invariant.2 names all),
+          (λ name a. IsAttempt g.S.Sockets.facts g.K.Limited.limits g.K.Limited.begun g.K.Limited.at_once name a.addresses.items a.place a.started a.stage) is c.advance_if.ensures.own names (at.invariant.2 names all),
     )

@@ -8,4 +8,4 @@ invariant-loop-i g l =
     (length l.attempts ≡ length l.initial.attempts)
     × ((c : ℕ) → is_present l.attempts c ≡ is_present l.initial.attempts c)
     × AttemptsStep l.initial.attempts l.attempts
-    (λ name a. IsAttempt g.S.Sockets.AreFound g.S.Sockets.IsOpening g.S.Sockets.IsConnected name a.addresses.items a.stage)
+    (λ name a. IsAttempt g.S.Sockets.facts g.K.Limited.limits g.K.Limited.begun g.K.Limited.at_once name a.addresses.items a.place a.started a.stage)

@@ -10,8 +10,8 @@ returns-clause-own g c =
     let new = c.begin_all.new.attempts in
     let same : c.deref_mut.result.now ≡ c.in_ok-attempts.attempts.items = search rules in
     let size : c.in_ok-attempts.attempts.len ≡ length new = search rules in
-    subst (λ z. AreAttempts names z (λ name a. IsAttempt g.S.Sockets.AreFound g.S.Sockets.IsOpening g.S.Sockets.IsConnected name a.addresses.items a.stage))
+    subst (λ z. AreAttempts names z (λ name a. IsAttempt g.S.Sockets.facts g.K.Limited.limits g.K.Limited.begun g.K.Limited.at_once name a.addresses.items a.place a.started a.stage))
     (sym (whole_back c.in_ok-attempts.attempts.len new _ size))
     (c.begin_all.ensures.own names
-    (subst (λ z. AreAttempts names z (λ name a. IsAttempt g.S.Sockets.AreFound g.S.Sockets.IsOpening g.S.Sockets.IsConnected name a.addresses.items a.stage))
+    (subst (λ z. AreAttempts names z (λ name a. IsAttempt g.S.Sockets.facts g.K.Limited.limits g.K.Limited.begun g.K.Limited.at_once name a.addresses.items a.place a.started a.stage))
     (sym same) c.in_ok-attempts.ensures.own))

@@ -8,7 +8,7 @@ use Rattle.zoom_tcp.proofs.host_talks.end_all.Goals as goal
 pub loop-c-init : goal.loop-c-init
 loop-c-init g c = (
   λ n few.
-      steps_none g.A.Reach.IsFor g.A.Reach.IsOwn
+      steps_none g.A.Reach.IsFor g.A.Reach.claims
       (host_view g.R.NonBlocking.state g.R.NonBlocking.polls g.W.Sink.state) n n c.args.talks.now c.args.meta.now
       (omega arith),
   λ i lt. absurd (omega (arith, lt)),
@@ -22,7 +22,7 @@ loop-c-preserved g c =
     let was = get_or c.loop-c.talks c.loop-c.c c.index-talks-c.result in
     let is = slice_get-get_or c.loop-c.talks c.loop-c.c c.index-talks-c.result lt in (
       λ n few.
-          end_goes g.A.Reach.IsFor g.A.Reach.IsOwn
+          end_goes g.A.Reach.IsFor g.A.Reach.claims
           (host_view g.R.NonBlocking.state g.R.NonBlocking.polls g.W.Sink.state) c.loop-c.c n c.args.talks.now
           c.loop-c.talks was c.end_one.new.talk c.args.meta.now c.loop-c.meta c.end_one.new.meta lt is
           (c.loop-c.invariant.0 n few) (c.in_ok-end_one.ensures.ends n few),

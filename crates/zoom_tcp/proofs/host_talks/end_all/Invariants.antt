@@ -5,7 +5,7 @@ use Rattle.zoom_tcp.proofs.host_talks.end_all.Given as goal
 abbrev pub invariant-loop-c : goal.invariant-loop-c
 invariant-loop-c g l =
     ((n : ℕ) → n ≤ 1000000000
-    → HostsStep g.A.Reach.IsFor g.A.Reach.IsOwn
+    → HostsStep g.A.Reach.IsFor g.A.Reach.claims
     (host_view g.R.NonBlocking.state g.R.NonBlocking.polls g.W.Sink.state) n n l.initial.talks l.talks l.initial.meta
     l.meta)
     × ((i : ℕ) → i < l.c

@@ -8,7 +8,7 @@ use Rattle.zoom_tcp.proofs.host_talks.go_round.Goals as goal
 pub loop-c-init : goal.loop-c-init
 loop-c-init g c = (
   λ n few.
-      round_begins g.A.Reach.IsFor g.A.Reach.IsOwn
+      round_begins g.A.Reach.IsFor g.A.Reach.claims
       (host_view g.R.NonBlocking.state g.R.NonBlocking.polls g.W.Sink.state) n c.args.talks.now c.args.meta.now,
   refl,
   refl,
@@ -20,7 +20,7 @@ loop-c-preserved g c =
     let was = get_or c.loop-c.talks c.loop-c.c c.index-talks-c.result in
     let is = slice_get-get_or c.loop-c.talks c.loop-c.c c.index-talks-c.result lt in (
       λ n few.
-          round_goes g.A.Reach.IsFor g.A.Reach.IsOwn
+          round_goes g.A.Reach.IsFor g.A.Reach.claims
           (host_view g.R.NonBlocking.state g.R.NonBlocking.polls g.W.Sink.state) c.loop-c.c n c.args.talks.now
           c.loop-c.talks was c.go_on.new.talk c.args.meta.now c.loop-c.meta c.go_on.new.meta lt is
           (c.loop-c.invariant.0 n few) (c.in_ok-part.ensures.steps n few),
@@ -31,5 +31,5 @@ loop-c-preserved g c =
 pub returns-clause-round : goal.returns-clause-round
 returns-clause-round g c n few =
     let le : length c.loop-c.talks ≤ c.loop-c.c = search rules in
-    round_ends g.A.Reach.IsFor g.A.Reach.IsOwn
+    round_ends g.A.Reach.IsFor g.A.Reach.claims
     (host_view g.R.NonBlocking.state g.R.NonBlocking.polls g.W.Sink.state) c.loop-c.c n c.args.talks.now c.loop-c.talks c.args.meta.now c.loop-c.meta le (c.loop-c.invariant.0 n few)

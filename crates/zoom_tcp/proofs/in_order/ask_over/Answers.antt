@@ -1,20 +1,14 @@
-use Rattle.std.proofs.Common.{[], subst, ◌∙◌}
-use Rattle.zoom_pool.specs.Metas.{MetaAfter}
+use Rattle.std.proofs.Common.{false}
 use Rattle.zoom_io.specs.TalksAmong.{halves_at}
-use Rattle.zoom_tcp.specs.Asking.{is_present}
-use Rattle.zoom_tcp.specs.HostLinks.{IsOwnLink}
-use Rattle.zoom_tcp.proofs.InOrder.{asked_in_order}
+use Rattle.zoom_tcp.specs.Asking.{is_present, IsAskedOver}
+use Rattle.zoom_tcp.specs.Connecting.{IsSeen, claims_of}
+use Rattle.zoom_tcp.proofs.InOrder.{ok_since}
 use Rattle.zoom_tcp.proofs.in_order.ask_over.Goals as goal
 
 pub returns : goal.returns
-returns g c =
-    let after = subst (λ z. MetaAfter z c.args.settings [] c.in_ok-meta.meta) c.from_vec.ensures c.in_ok-meta.ensures.after in
-    record {
-      asked = asked_in_order c.in_ok-links.links.items
-          (λ l. g.S.Sockets.octets_left l.source.timed.socket.value l.source.cursor)
-          (λ i. IsOwnLink g.S.Sockets.AreFound g.S.Sockets.IsOpening g.S.Sockets.IsConnected g.S.Sockets.octets (halves_at c.args.addresses.now i))
-          c.args.questions.items c.args.settings (is_present c.args.addresses.now)
-          c.in_ok-meta.meta c.open_all.new.meta c.talk_all.new.meta after
-          (c.in_ok-links.ensures.links ∙ c.requires.equal) c.in_ok-links.ensures.opens
-          (c.in_ok-talk_all.ensures.talks (halves_at c.args.addresses.now));
-    }
+returns g c = record {
+  asked = ok_since c.ask_since.result (IsSeen g.S.Sockets.facts)
+      (λ begun meta. IsAskedOver (λ i. claims_of g.S.Sockets.facts c.args.limits begun false (halves_at c.args.addresses.now i))
+      c.args.questions.items c.args.settings false (is_present c.args.addresses.now) meta)
+      c.time_or-begun.result c.time_or-begun.ensures c.ask_since.ensures.asked;
+}

@@ -2,7 +2,7 @@ use Rattle.std.proofs.Common.{◌≡◌, ◌∷◌, [], ◌++◌, ◌+◌, ◌<�
 use Rattle.std.specs.Vec.Iter.{into_iter_items}
 use Rattle.zoom_io.specs.TalksAmong.{halves_at}
 use Rattle.zoom_tcp.specs.Asking.{octets_of}
-use Rattle.zoom_tcp.specs.HostLinks.{IsOwnLink}
+use Rattle.zoom_tcp.specs.Connecting.{claims_of}
 use Rattle.zoom_tcp.specs.AskingSteps.{AfterTalkAll}
 use Rattle.zoom_tcp.proofs.Alike.{entry_middle, none_left}
 use Rattle.zoom_tcp.proofs.InOrder.{talks_begin, talks_more}
@@ -13,7 +13,7 @@ loop-link-init g c = (
   refl,
   λ address. talks_begin (into_iter_items c.into_iter-link-iterator.result)
       (λ l. g.S.Sockets.octets_left l.source.timed.socket.value l.source.cursor)
-      (λ i. IsOwnLink g.S.Sockets.AreFound g.S.Sockets.IsOpening g.S.Sockets.IsConnected g.S.Sockets.octets (address i))
+      (λ i. claims_of g.S.Sockets.facts g.K.Limited.limits g.K.Limited.begun g.K.Limited.at_once (address i))
       c.args.meta.now,
   refl,
   refl,
@@ -46,7 +46,7 @@ loop-link-preserved g c =
       append_assoc at.yielded (c.in-Some.link ∷ []) _ ∙ whole,
       λ address. talks_more links
           (λ l. g.S.Sockets.octets_left l.source.timed.socket.value l.source.cursor)
-          (λ i. IsOwnLink g.S.Sockets.AreFound g.S.Sockets.IsOpening g.S.Sockets.IsConnected g.S.Sockets.octets (address i))
+          (λ i. claims_of g.S.Sockets.facts g.K.Limited.limits g.K.Limited.begun g.K.Limited.at_once (address i))
           at.c c.in-Some.link c.args.meta.now at.meta c.talk_if.new.meta
           (ap (λ z. octets_of z (λ l. g.S.Sockets.octets_left l.source.timed.socket.value l.source.cursor)) here) few
           (at.invariant.1 address) c.in_ok-talk_if.ensures.talks,
@@ -69,9 +69,9 @@ returns-clause-talks g c address =
     let count : at.c ≡ length links = at.invariant.3 ∙ ap length all in
     subst (λ z. AfterTalkAll z
     (λ l. g.S.Sockets.octets_left l.source.timed.socket.value l.source.cursor)
-    (λ i. IsOwnLink g.S.Sockets.AreFound g.S.Sockets.IsOpening g.S.Sockets.IsConnected g.S.Sockets.octets (address i))
+    (λ i. claims_of g.S.Sockets.facts g.K.Limited.limits g.K.Limited.begun g.K.Limited.at_once (address i))
     (length z) c.args.meta.now at.meta) c.into_iter-link-iterator.ensures.into_iter_gives.0
     (subst (λ n. AfterTalkAll links
     (λ l. g.S.Sockets.octets_left l.source.timed.socket.value l.source.cursor)
-    (λ i. IsOwnLink g.S.Sockets.AreFound g.S.Sockets.IsOpening g.S.Sockets.IsConnected g.S.Sockets.octets (address i))
+    (λ i. claims_of g.S.Sockets.facts g.K.Limited.limits g.K.Limited.begun g.K.Limited.at_once (address i))
     n c.args.meta.now at.meta) count (at.invariant.1 address))

@@ -1,18 +1,18 @@
-use Rattle.std.proofs.Common.{◌≡◌, length}
+use Rattle.std.proofs.Common.{◌≡◌, ℕ, length}
 use Rattle.zoom_io.specs.TalksAmong.{halves_at}
 use Rattle.zoom_tcp.specs.Asking.{is_present}
 use Rattle.zoom_tcp.specs.AskingSteps.{AfterOpenAll}
-use Rattle.zoom_tcp.specs.Connecting.{IsAttempt, AreAttempts}
-use Rattle.zoom_tcp.specs.HostLinks.{IsOwnLink}
+use Rattle.zoom_tcp.specs.Connecting.{IsAttempt, AreAttempts, claims_of}
 use Rattle.zoom_tcp.proofs.opening.begin_all.Given as goal
 
 abbrev pub invariant-loop-c : goal.invariant-loop-c
 invariant-loop-c g l =
     AfterOpenAll l.links.items (λ l. g.S.Sockets.octets_left l.source.timed.socket.value l.source.cursor)
-    (λ c. IsOwnLink g.S.Sockets.AreFound g.S.Sockets.IsOpening g.S.Sockets.IsConnected g.S.Sockets.octets (halves_at l.addresses c))
+    (λ c. claims_of g.S.Sockets.facts g.K.Limited.limits g.K.Limited.begun g.K.Limited.at_once (halves_at l.addresses c))
     (is_present l.addresses) l.initial.meta l.meta
     × (length l.meta.pool.connections ≡ length l.initial.meta.pool.connections)
     × (length l.links.items ≡ l.c)
     × (length l.attempts ≡ length l.addresses)
     × AreAttempts (halves_at l.addresses) l.attempts
-    (λ name a. IsAttempt g.S.Sockets.AreFound g.S.Sockets.IsOpening g.S.Sockets.IsConnected name a.addresses.items a.stage)
+    (λ name a. IsAttempt g.S.Sockets.facts g.K.Limited.limits g.K.Limited.begun g.K.Limited.at_once name a.addresses.items a.place a.started a.stage)
+    × ((k : ℕ) → is_present l.attempts k ≡ is_present l.addresses k)

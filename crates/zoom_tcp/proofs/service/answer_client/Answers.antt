@@ -1,4 +1,4 @@
-use Rattle.std.proofs.Common.{◌≡◌, Ok, Err, rules}
+use Rattle.std.proofs.Common.{Ok, Err, rules}
 use Rattle.zoom_tcp.proofs.Serving.{answered_by, starved_by}
 use Rattle.zoom_tcp.proofs.service.answer_client.Goals as goal
 

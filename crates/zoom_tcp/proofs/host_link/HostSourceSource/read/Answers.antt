@@ -1,4 +1,4 @@
-use Rattle.std.proofs.Common.{◌≡◌, ◌∙◌, ap, sym, subst, refl, rules, Ok, Err}
+use Rattle.std.proofs.Common.{◌∙◌, ap, sym, subst, refl, Ok, Err}
 use Rattle.std.proofs.lemmas.Result.{err_from_is_err_and}
 use Rattle.std.proofs.KnownBytes.{Keeps-refl, Keeps-trans}
 use Rattle.zoom_io.specs.declared.device.Failed.{Failed}
@@ -37,4 +37,5 @@ returns-in-Some-clause-reads g c =
     (Ok z) c.receive.new.piece) c.in-Some.is c.in_ok-count.ensures.reads)
 
 pub returns-clause-reads : goal.returns-clause-reads
-returns-clause-reads g c = record { octets = c.loop.invariant.1; count = search rules }
+returns-clause-reads g c =
+    reads_from c.read_last.result _ _ _ _ _ _ c.loop.invariant.1 c.loop.invariant.0 c.read_last.ensures.reads
