@@ -59,9 +59,10 @@ pub fn ask_at_once<N: Net + Clock, V: Watch>(
 /// its socket was opened for one of the addresses that were found for its name, and is connected. The octets that came
 /// over it first are those that were read.
 ///
-/// A connection is stopped for `Connect` only if each address of its name was tried, or the time for it was over, or
-/// the clock failed (`IsUnreached`). It is stopped for `Read` only if its host was silent for as long as the patience,
-/// or the total was over, or the clock or a socket failed (`ReadFault`).
+/// A connection is stopped for `Connect` only if connecting to each address of its name failed, if its time was over,
+/// or if the clock failed (`IsUnreached`). It is stopped for `Read` only if its host was silent for as long as the
+/// patience, if the total was over, or if the clock or a socket failed (`ReadFault`). Times are those that the clock
+/// gave. After as many looks as there can be, a socket is given up.
 pub fn ask_at_once_over<S: Sockets, V: Watch>(
     alloc: Global,
     network: &Network<S>,

@@ -1,7 +1,6 @@
 //! A link to a host: a source and a sink over one socket, with time limits.
-ghost use Rattle.std.specs.Prelude.{◌≡◌, ◌-◌, ◌<◌, None, length, IfOk, IfSome, OnOk, OnErr, IsErr};
+ghost use Rattle.std.specs.Prelude.{◌≡◌, ◌<◌, None, length, IfOk, IfSome, OnOk, OnErr, IsErr};
 ghost use Rattle.std.specs.Option.{ForSome};
-ghost use Rattle.std.specs.Duration.{as_nanos};
 ghost use Rattle.std.specs.Io.{ReadsAtMost, WritesAtMost};
 ghost use Rattle.zoom_io.specs.Devices.{IsBoundedPoll, IsCounted, AfterRead, AfterPoll, polls_after};
 ghost use Rattle.zoom_tcp.specs.HostLinks.{IsPolled};

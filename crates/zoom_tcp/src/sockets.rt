@@ -76,7 +76,7 @@ pub trait Sockets {
     fn connect(&self, token: usize, address: &Self::Address) -> Option<Self::Socket>
         ensures { facts.IsOpening address.now result };
 
-    /// How the attempt to connect stands. The socket has to be reported writable before.
+    /// How the attempt to connect stands. It may stay pending until the socket is reported writable.
     fn progress(&self, socket: &Self::Socket) -> ConnectProgress
         ensures { AfterProgress facts socket.now result };
 
@@ -101,7 +101,7 @@ pub trait Sockets {
         ensures broken { IsBrokenIf facts.IsBroken socket.now result };
 
     /// Takes note that a socket is given up. It was looked at 18,446,744,073,709,551,615 times, or 1,000,000,000 times
-    /// if hosts are asked at once, and is not connected yet, or has no octets.
+    /// if hosts are asked at once, and is not connected yet, or has no octets yet.
     fn give_up(&self, socket: &Self::Socket)
         ensures { facts.IsGivenUp socket.now };
 }
