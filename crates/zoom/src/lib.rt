@@ -15,7 +15,7 @@ pub use zoom_questions::{MetaSettings, Move, Question};
 pub use zoom_sim::channels::{Channel, InMemory};
 pub use zoom_sim::{run_over, run_world};
 pub use zoom_tcp::{
-    Arrival, Clients, ConnectProgress, Limits, Network, Readiness, ServeError, Sockets, TcpClients,
-    TcpLink, TcpSockets, Transfer, ask, ask_at_once, ask_at_once_over, ask_over, run_loopback,
-    serve, serve_over,
+    Arrival, Clients, ConnectProgress, Limits, Network, Readiness, Received, ServeError, Sockets,
+    TcpClients, TcpLink, TcpSockets, Transfer, ask, ask_at_once, ask_at_once_over, ask_over,
+    run_loopback, serve, serve_over,
 };

@@ -41,3 +41,15 @@ present_all (x ∷ xs) [] e all c = absurd cc
 -- A slice that was written back.
 pub whole_back : {A : Type 0} (n : ℕ) (new rest : List A) → n ≡ length new → take n (new ++ rest) ≡ new
 whole_back n new rest e = subst (λ z. take z (new ++ rest) ≡ new) (sym e) (take-append_seam new rest)
+
+-- One entry more of each of two lists that are as long as each other.
+pub present_both : {A B : Type 0} (xs : List (Option A)) (ys : List (Option B)) (x : Option A) (y : Option B)
+    → length xs ≡ length ys → ((c : ℕ) → c < length xs → is_present xs c ≡ is_present ys c) → is_some x ≡ is_some y
+    → (c : ℕ) → c < length (xs ++ x ∷ []) → is_present (xs ++ x ∷ []) c ≡ is_present (ys ++ y ∷ []) c
+present_both [] [] x y e all is zero lt = is
+present_both [] [] x y e all is (suc c) lt = refl
+present_both (u ∷ xs) (v ∷ ys) x y e all is zero lt = all zero (omega arith)
+present_both (u ∷ xs) (v ∷ ys) x y e all is (suc c) lt =
+    present_both xs ys x y (cc) (λ i less. all (suc i) (omega (arith, less))) is c (omega (arith, lt))
+present_both [] (v ∷ ys) x y e all is c lt = absurd cc
+present_both (u ∷ xs) [] x y e all is c lt = absurd cc

@@ -396,6 +396,17 @@ module _ {A E : Type 0} (view : E → HostView A) where
           let before : i < c = grind (arith, nat_tests) in
           subst (IsOverIn view) (sym (set_other hosts c i last e)) (below i before)
 
+  -- The next host is over too.
+  pub over_next : (hosts : List E) (c : ℕ) (x : E) → slice_get hosts c ≡ Some x → IsHostOver (view x)
+      → ((i : ℕ) → i < c → IsOverIn view (slice_get hosts i)) → (i : ℕ) → i < c + 1 → IsOverIn view (slice_get hosts i)
+  over_next hosts c x there over below i less = by (cases_lt i c)
+    where
+      by : (i < c) ⊎ (c ≤ i) → IsOverIn view (slice_get hosts i)
+      by (inl lt) = below i lt
+      by (inr past) =
+          let same : c ≡ i = omega (arith, less, past) in
+          subst (λ z. IsOverIn view (slice_get hosts z)) same (subst (IsOverIn view) (sym there) over)
+
   pub over_all : (hosts : List E) (n : ℕ) → length hosts ≤ n → ((i : ℕ) → i < n → IsOverIn view (slice_get hosts i))
       → AreHostsOver view hosts
   over_all hosts n le below c = by (cases_lt c n)

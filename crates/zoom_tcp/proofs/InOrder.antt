@@ -186,16 +186,8 @@ asked_over_any claims q s at_once chosen meta asked = record {
   each = λ c lt. any_link (claims c) q s at_once (chosen c) c asked.history (asked.each c lt);
 }
 
-pub ok_over_any : {E X : Type 0} (result : Result MetaLinks E) (IsSeen : X → Type 0) (claims : X → ℕ → HostClaims)
-    (q : List Question) (s : MetaSettings) (at_once : Bool) (chosen : ℕ → Bool)
-    → IfOk result (λ meta. (x : X) × IsSeen x × IsAskedOver (claims x) q s at_once chosen meta)
+pub ok_over_any : {E : Type 0} (result : Result MetaLinks E) (claims : ℕ → HostClaims) (q : List Question)
+    (s : MetaSettings) (at_once : Bool) (chosen : ℕ → Bool) → IfOk result (IsAskedOver claims q s at_once chosen)
     → IfOk result (IsAsked q s at_once chosen)
-ok_over_any (Ok meta) IsSeen claims q s at_once chosen asked =
-    asked_over_any (claims asked.0) q s at_once chosen meta asked.2
-ok_over_any (Err e) IsSeen claims q s at_once chosen asked = tt
-
--- What is said of a time is said of some time that was seen.
-pub ok_since : {E X : Type 0} (result : Result MetaLinks E) (IsSeen : X → Type 0) (Is : X → MetaLinks → Type 0) (x : X)
-    → IsSeen x → IfOk result (Is x) → IfOk result (λ meta. (y : X) × IsSeen y × Is y meta)
-ok_since (Ok meta) IsSeen Is x seen is = (x, seen, is)
-ok_since (Err e) IsSeen Is x seen is = tt
+ok_over_any (Ok meta) claims q s at_once chosen asked = asked_over_any claims q s at_once chosen meta asked
+ok_over_any (Err e) claims q s at_once chosen asked = tt

@@ -7,3 +7,4 @@ pub mod Serving
 pub mod Entries
 pub mod Attempts
 pub mod HostLinks
+pub mod Waits

@@ -6,35 +6,31 @@ use Rattle.zoom_io.specs.TalksAmong.{halves_at}
 use Rattle.zoom_tcp.specs.SocketFacts.{SocketFacts}
 use Rattle.zoom_tcp.specs.Asking.{HostClaims}
 use Rattle.zoom_tcp.specs.HostLinks.{IsTried, IsSocketTo, IsOwnLink}
-use Rattle.zoom_tcp.specs.Silence.{IsOver, IsTotalOver, HasReadFault}
+use Rattle.zoom_tcp.specs.Silence.{IsOver, IsTotalOver, IsSeen, HasReadFault, most_looks}
 use Rattle.zoom_tcp.specs.declared.limits.Limits.{Limits}
-use Rattle.zoom_tcp.specs.declared.connecting.AttemptStage.{AttemptStage}
-use Rattle.zoom_tcp.specs.declared.connecting.AttemptStage.TheVariants as stages
+use Rattle.zoom_tcp.specs.declared.attempt.Tries.{Tries}
+use Rattle.zoom_tcp.specs.declared.attempt.AttemptStage.{AttemptStage}
+use Rattle.zoom_tcp.specs.declared.attempt.AttemptStage.TheVariants as stages
 
 -- The socket that is tried, if there is one, is connected.
-abbrev pub IsSettled : {Socket : Type 0} → (Socket → Type 0) → AttemptStage Socket → Type 0
-IsSettled IsConnected (stages.Pending socket since share) = IsConnected socket
+abbrev pub IsSettled : {Socket D : Type 0} → (Socket → Type 0) → AttemptStage Socket D → Type 0
+IsSettled IsConnected (stages.Pending socket since until) = IsConnected socket
 IsSettled IsConnected _ = Unit {0}
 
--- An attempt that has ended.
-abbrev pub HasEnded : {Socket : Type 0} → AttemptStage Socket → Type 0
-HasEnded (stages.Connected socket) = Unit {0}
-HasEnded stages.Out = Unit {0}
-HasEnded _ = ⊥
+-- No socket is tried now.
+abbrev pub HasEnded : {Socket D : Type 0} → AttemptStage Socket D → Type 0
+HasEnded (stages.Pending socket since until) = ⊥
+HasEnded _ = Unit {0}
 
--- An attempt that has begun.
-abbrev pub HasBegun : {Socket : Type 0} → AttemptStage Socket → Type 0
-HasBegun stages.Idle = ⊥
-HasBegun _ = Unit {0}
+-- If a socket is tried, there were as many looks as there can be.
+abbrev pub IsWaited : {Socket D : Type 0} → ℕ → AttemptStage Socket D → Type 0
+IsWaited looks (stages.Pending socket since until) = looks ≡ most_looks
+IsWaited looks _ = Unit {0}
 
 -- ---- one attempt
 
 -- What the calls of the sockets gave.
 module _ {Address Socket : Type 0} (facts : SocketFacts Address Socket) where
-  -- The clock gave this time, or the clock failed.
-  abbrev pub IsSeen : Duration → Type 0
-  IsSeen time = facts.IsMoment time ⊎ facts.HasNoClock
-
   -- The addresses that were found for a name. There are none if the name is not a text.
   abbrev pub AreAddressesOf : List ℕ → List Address → Type 0
   AreAddressesOf name addresses = facts.AreFound name addresses ⊎ ((IsUtf8 name → ⊥) × (addresses ≡ []))
@@ -46,18 +42,27 @@ module _ {Address Socket : Type 0} (facts : SocketFacts Address Socket) where
     refused : (socket : Socket) → IsTried facts.IsOpening addresses place (Some socket) → facts.IsRefused socket
         → IsFailed addresses place
     late : (socket : Socket) → IsTried facts.IsOpening addresses place (Some socket) → (since now : Duration)
-        → IsSeen since → IsSeen now → as_nanos since < as_nanos now → IsFailed addresses place
+        → IsSeen facts since → IsSeen facts now → as_nanos since < as_nanos now → IsFailed addresses place
 
   -- That is so of each of the first n addresses.
   abbrev pub AreFailedBelow : List Address → ℕ → Type 0
   AreFailedBelow addresses n = (i : ℕ) → i < n → IsFailed addresses i
 
+  -- An attempt at the addresses of a name. Connecting to those before its place failed.
+  pub record IsTrying {D : Type 0} (name : List ℕ) (tries : Tries Address Socket D) : Type 0 where
+    pub named : AreAddressesOf name tries.addresses.items
+    pub failed : AreFailedBelow tries.addresses.items tries.place
+    pub start : IsSeen facts tries.started
+
 -- The same, with the limits, when everything began, and whether hosts are asked at once.
 module _ {Address Socket : Type 0} (facts : SocketFacts Address Socket) (limits : Limits) (begun : Duration)
     (at_once : Bool) where
-  -- A socket was given up. If hosts are asked in order, it was idle or refused when it was last looked at.
+  -- A socket was given up. If hosts are asked at once, there were 1,000,000,000 looks. If they are asked in order,
+  -- there were as many as there can be, and it was refused, or not connected yet, when it was last looked at.
   abbrev pub IsLeft : Socket → Type 0
-  IsLeft socket = facts.IsGivenUp socket × ((at_once ≡ true) ⊎ facts.IsIdle socket ⊎ facts.IsRefused socket)
+  IsLeft socket =
+      ((at_once ≡ true) × facts.IsGivenUp socket 1000000000)
+      ⊎ (facts.IsGivenUp socket most_looks × (facts.IsPending socket ⊎ facts.IsRefused socket))
 
   -- Why no host of a name was reached. The name is not a text; connecting to each address that was found for it
   -- failed; the clock failed; the time for connecting or for everything is over, by times that the clock gave; or a
@@ -74,23 +79,23 @@ module _ {Address Socket : Type 0} (facts : SocketFacts Address Socket) (limits 
         → IsSocketTo facts addresses socket → IsLeft socket → IsUnreached name
 
   -- How far an attempt has come: the address in this place gave the socket that is tried, at a time that was seen; one
-  -- of the addresses gave the socket that is connected; or no host was reached.
-  abbrev pub IsAtStage : List ℕ → List Address → ℕ → AttemptStage Socket → Type 0
-  IsAtStage name addresses place stages.Idle = Unit {0}
-  IsAtStage name addresses place (stages.Pending socket since share) =
-      IsTried facts.IsOpening addresses place (Some socket) × IsSeen facts since × (0 < as_nanos share)
+  -- of the addresses gave the socket that is connected; or no host was reached. Its link was not taken out.
+  abbrev pub IsAtStage : {D : Type 0} → List ℕ → List Address → ℕ → AttemptStage Socket D → Type 0
+  IsAtStage name addresses place (stages.Pending socket since until) =
+      IsTried facts.IsOpening addresses place (Some socket) × IsSeen facts since
   IsAtStage name addresses place (stages.Connected socket) =
       IsSocketTo facts addresses socket × facts.IsConnected socket
   IsAtStage name addresses place stages.Out = IsUnreached name
+  IsAtStage name addresses place stages.Taken = ⊥
 
-  -- An attempt at the addresses of a name. Connecting to those before this place failed.
-  pub record IsAttempt
-      (name : List ℕ) (addresses : List Address) (place : ℕ) (started : Duration) (stage : AttemptStage Socket)
-      : Type 0 where
-    pub named : AreAddressesOf facts name addresses
-    pub tries : AreFailedBelow facts addresses place
-    pub start : IsSeen facts started
-    pub stands : IsAtStage name addresses place stage
+  -- An attempt at a name that has come so far.
+  pub record IsAttempt {D : Type 0} (name : List ℕ) (tries : Tries Address Socket D) : Type 0 where
+    pub trying : IsTrying facts name tries
+    pub stands : IsAtStage name tries.addresses.items tries.place tries.stage
+
+  -- What was an attempt at a name is one still.
+  abbrev pub AttemptStep : {D : Type 0} → Tries Address Socket D → Tries Address Socket D → Type 0
+  AttemptStep old new = (name : List ℕ) → IsAttempt name old → IsAttempt name new
 
   -- There is such a reason for a connection's own name, which it has.
   abbrev pub IsOwnUnreached : Option (List ℕ) → Type 0
@@ -124,6 +129,15 @@ AreAttempts names attempts IsFor = (c : ℕ) → IsFitIf (names c) (halves_at at
 -- Attempts that each fit the name of their own question before do so after.
 abbrev pub AttemptsStep : {E : Type 0} → List (Option E) → List (Option E) → (List ℕ → E → Type 0) → Type 0
 AttemptsStep old new IsFor = (names : ℕ → Option (List ℕ)) → AreAttempts names old IsFor → AreAttempts names new IsFor
+
+-- What is said of an entry, if there is one.
+abbrev pub IsEntryIf : {E : Type 0} → Option E → (E → Type 0) → Type 0
+IsEntryIf None Is = Unit {0}
+IsEntryIf (Some entry) Is = Is entry
+
+-- The same of all of them.
+abbrev pub AreEntries : {E : Type 0} → List (Option E) → (E → Type 0) → Type 0
+AreEntries entries Is = (c : ℕ) → IsEntryIf (halves_at entries c) Is
 
 -- The link to the host of a name, if there is one, or why there is none.
 abbrev pub IsLinkFor : {L : Type 0} → Option (List ℕ) → Option L → (List ℕ → L → Type 0) → (List ℕ → Type 0) → Type 0

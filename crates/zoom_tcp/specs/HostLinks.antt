@@ -1,8 +1,10 @@
 -- Sockets to hosts: what they move, and which links are a connection's own.
-use Rattle.std.specs.Prelude.{◌≡◌, ℕ, ◌≤◌, List, slice_get, Option, None, Some, Result, Ok}
+use Rattle.std.specs.Prelude.{◌≡◌, ℕ, ◌≤◌, List, slice_get, Option, None, Some, Result, Ok, IfSome}
+use Rattle.std.specs.declared.time.Duration.{Duration}
 use Rattle.std.specs.Io.KnownBytes.{ReadConsumes}
 use Rattle.zoom_tcp.specs.Asking.{KnownOctets}
-use Rattle.zoom_tcp.specs.SocketFacts.{SocketFacts}
+use Rattle.zoom_tcp.specs.SocketFacts.{SocketFacts, AtTime}
+use Rattle.zoom_tcp.specs.declared.sockets.Received.{Received}
 use Rattle.zoom_tcp.specs.declared.sockets.Transfer.{Transfer}
 use Rattle.zoom_tcp.specs.declared.sockets.Transfer.TheVariants.{Octets, NotYet, Failure}
 use Rattle.zoom_tcp.specs.declared.sockets.ConnectProgress.{ConnectProgress}
@@ -39,22 +41,27 @@ pub record IsTried {Address Socket : Type 0}
 
 -- What the calls of the sockets gave.
 module _ {Address Socket : Type 0} (facts : SocketFacts Address Socket) where
-  -- The socket is connected, was refused or is idle, as the attempt stands.
+  -- The socket is connected, was refused or is not connected yet, as the attempt stands.
   abbrev pub AfterProgress : Socket → ConnectProgress → Type 0
   AfterProgress socket Connected = facts.IsConnected socket
   AfterProgress socket Refused = facts.IsRefused socket
-  AfterProgress socket Pending = facts.IsIdle socket
+  AfterProgress socket Pending = facts.IsPending socket
 
   -- The same of a socket that need not have been looked at.
   abbrev pub AfterLook : Socket → ConnectProgress → Type 0
   AfterLook socket Pending = Unit {0}
   AfterLook socket progress = AfterProgress socket progress
 
-  -- The socket is broken if moving octets failed, and idle if none were moved yet.
-  abbrev pub AfterTransfer : Socket → Transfer → Type 0
-  AfterTransfer socket (Octets n) = Unit {0}
-  AfterTransfer socket NotYet = facts.IsIdle socket
-  AfterTransfer socket Failure = facts.IsBroken socket
+  -- A read gave octets when the clock says, or none had come then; these are left. The socket is broken if it failed.
+  abbrev pub AfterMove : Socket → KnownOctets → Transfer → Option Duration → Type 0
+  AfterMove socket left (Octets n) at = AtTime facts.HasNoClock (λ time. facts.IsHeardAt socket time left) at
+  AfterMove socket left NotYet at = AtTime facts.HasNoClock (λ time. facts.IsIdleAt socket time left) at
+  AfterMove socket left Failure at = facts.IsBroken socket
+
+  -- The same of what a read gave. Its time is one of the clock.
+  pub record AfterReceive (socket : Socket) (left : KnownOctets) (received : Received) : Type 0 where
+    pub seen : IfSome received.at facts.IsMoment
+    pub moved : AfterMove socket left received.moved received.at
 
   -- The socket was opened for one of these addresses.
   pub record IsSocketTo (addresses : List Address) (socket : Socket) : Type 0 where

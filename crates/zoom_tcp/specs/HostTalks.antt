@@ -40,6 +40,11 @@ IsReachedOver state host (Link source sink) = host.IsOwn (state source).octets
 IsReachedOver state host Never = host.IsUnreached
 IsReachedOver state host NotYet = Unit {0}
 
+-- This is said still if the attempt goes on.
+abbrev pub IsStillFor : {R W : Type 0} → Type 0 → Reached R W → Type 0
+IsStillFor said NotYet = said
+IsStillFor said _ = Unit {0}
+
 -- ---- one host
 
 -- What a phase says of a talk after at most n polls. One that is over had at most 1,000,000,000.

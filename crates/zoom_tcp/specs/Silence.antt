@@ -1,7 +1,8 @@
--- The time limits of a link, and why a read of it fails.
-use Rattle.std.specs.Prelude.{◌≡◌, ℕ, ◌-◌, ◌<◌, ◌≤◌, Option, None, Some, Result, Ok, IfSome}
+-- The time limits of a link, why a read of it fails, and until when it may be waited.
+use Rattle.std.specs.Prelude.{◌≡◌, ◌⊎◌, ℕ, ◌+◌, ◌-◌, ◌^◌, ◌<◌, ◌≤◌, Option, None, Some, Result, Ok, IfSome}
 use Rattle.std.specs.declared.time.Duration.{Duration}
 use Rattle.std.specs.Duration.{as_nanos}
+use Rattle.zoom_tcp.specs.Asking.{KnownOctets}
 use Rattle.zoom_tcp.specs.SocketFacts.{SocketFacts}
 use Rattle.zoom_tcp.specs.declared.limits.Limits.{Limits}
 
@@ -12,6 +13,10 @@ IsWithin begun now span = as_nanos now - as_nanos begun < as_nanos span
 -- A span of time that began at `begun` is over.
 abbrev pub IsOver : Duration → Duration → Duration → Type 0
 IsOver begun now span = as_nanos span ≤ as_nanos now - as_nanos begun
+
+-- A time is no later than the end of a span of time that began at `begun`.
+abbrev pub IsNoLater : Duration → Duration → Duration → Type 0
+IsNoLater begun time span = as_nanos time ≤ as_nanos begun + as_nanos span
 
 -- The time for everything has a limit, and is over.
 abbrev pub IsTotalOver : Limits → Duration → Duration → Type 0
@@ -31,18 +36,73 @@ abbrev pub IfNotYet : {E : Type 0} → Result (Option ℕ) E → Type 0 → Type
 IfNotYet (Ok None) said = said
 IfNotYet _ said = Unit {0}
 
+-- The most looks at a socket that no limit ends.
+abbrev pub most_looks : ℕ
+most_looks = 2 ^ 64 - 1
+
+-- What the calls of the sockets gave.
+module _ {Address Socket : Type 0} (facts : SocketFacts Address Socket) where
+  -- The clock gave this time, or the clock failed.
+  abbrev pub IsSeen : Duration → Type 0
+  IsSeen time = facts.IsMoment time ⊎ facts.HasNoClock
+
+  -- Since this time these octets are left to come on a socket: octets, or their end, were read then; or it was first
+  -- polled then, and nothing was read.
+  pub data IsLeftSince (socket : Socket) (since : Duration) (left : KnownOctets) : Type 0 where
+    heard : facts.IsHeardAt socket since left → IsLeftSince socket since left
+    polled : facts.IsMoment since → left ≡ facts.octets socket → IsLeftSince socket since left
+
+  -- The same, unless the clock failed.
+  abbrev pub IsKnownLeft : Socket → KnownOctets → Duration → Type 0
+  IsKnownLeft socket left since = ∥ (IsLeftSince socket since left) ⊎ facts.HasNoClock ∥₁
+
+  -- Connecting to all hosts began at this time, and some address gave a socket; or the clock failed.
+  pub data IsWaitStart (since : Duration) : Type 0 where
+    connecting : (address : Address) (socket : Socket) → facts.IsOpening address (Some socket)
+        → facts.IsMoment since → IsWaitStart since
+    no_clock : facts.HasNoClock → IsWaitStart since
+
+  -- A wait for hosts to connect until this time is within the limits: it ends no later than the patience after
+  -- connecting began, and no later than the total after everything began.
+  pub record IsWaitWithin (limits : Limits) (begun until : Duration) : Type 0 where
+    pub since : Duration
+    pub start : IsWaitStart since
+    pub patient : IsNoLater since until limits.patience
+    pub total : IfSome limits.total (IsNoLater begun until)
+
+  -- A wait until this time for octets of a socket, of which these are left, is within the limits: it ends no later than
+  -- the patience after the time since which they are left, and no later than the total after everything began.
+  pub record IsListenWithin (limits : Limits) (begun : Duration) (socket : Socket) (left : KnownOctets)
+      (until : Duration)
+      : Type 0 where
+    pub since : Duration
+    pub start : IsLeftSince socket since left ⊎ facts.HasNoClock
+    pub patient : IsNoLater since until limits.patience
+    pub total : IfSome limits.total (IsNoLater begun until)
+
+  -- Each such wait is allowed.
+  abbrev pub AllowsWaits : (Duration → Type 0) → Limits → Duration → Type 0
+  AllowsWaits MayWait limits begun = (until : Duration) → IsWaitWithin limits begun until → ∥ MayWait until ∥₁
+
+  abbrev pub AllowsListening : (Socket → KnownOctets → Duration → Type 0) → Limits → Duration → Type 0
+  AllowsListening MayListen limits begun =
+      (socket : Socket) (left : KnownOctets) (until : Duration) → IsListenWithin limits begun socket left until
+      → ∥ MayListen socket left until ∥₁
+
 -- What the calls of the sockets gave, the limits, and when everything began.
 module _ {Address Socket : Type 0} (facts : SocketFacts Address Socket) (limits : Limits) (begun : Duration) where
-  -- Why a read fails. The clock failed; the socket did; no octets came for as long as the patience, by two times that
-  -- the clock gave; the time for everything is over, by a time that the clock gave; or the socket was given up
-  -- while it was idle.
+  -- Why a read fails. The clock failed; the socket did; no octets came for as long as the patience: those that are left
+  -- are left since a time, and none had come by another time, which is as far from it; the time for everything is over,
+  -- by a time that the clock gave; or no octets had come when the socket was given up.
   pub data ReadFault : Type 0 where
     no_clock : facts.HasNoClock → ReadFault
     broken_socket : (socket : Socket) → facts.IsBroken socket → ReadFault
-    silent_host : (since now : Duration) → facts.IsMoment since → facts.IsMoment now
-        → IsOver since now limits.patience → ReadFault
+    silent_host : (socket : Socket) (since now : Duration) (left : KnownOctets)
+        → IsLeftSince facts socket since left → facts.IsIdleAt socket now left → IsOver since now limits.patience
+        → ReadFault
     total_over : (now : Duration) → facts.IsMoment now → IsTotalOver limits begun now → ReadFault
-    given_up : (socket : Socket) → facts.IsGivenUp socket → facts.IsIdle socket → ReadFault
+    given_up : (socket : Socket) (now : Duration) (left : KnownOctets) → facts.IsIdleAt socket now left
+        → facts.IsGivenUp socket most_looks → ReadFault
 
   -- There is such a reason.
   abbrev pub HasReadFault : Type 0

@@ -1,6 +1,7 @@
 -- What the calls of sockets to hosts gave.
-use Rattle.std.specs.Prelude.{ℕ, List, Option}
+use Rattle.std.specs.Prelude.{ℕ, ◌<◌, List, Option, None, Some}
 use Rattle.std.specs.declared.time.Duration.{Duration}
+use Rattle.std.specs.Duration.{as_nanos}
 use Rattle.zoom_tcp.specs.Asking.{KnownOctets}
 
 -- What the calls of sockets gave, as far as it is known. Sockets in memory can tell exactly what it is. Of sockets of a
@@ -18,11 +19,24 @@ pub record SocketFacts (Address Socket : Type 0) : Type 1 where
   pub IsConnected : Socket → Type 0
   -- the host refused the socket, or cannot be reached
   pub IsRefused : Socket → Type 0
+  -- the socket was looked at, and was not connected yet
+  pub IsPending : Socket → Type 0
   -- a read or a write of the socket failed
   pub IsBroken : Socket → Type 0
-  -- the socket was looked at, and was not connected yet, or had no octets yet
-  pub IsIdle : Socket → Type 0
-  -- the socket was given up: it was looked at as often as there is a limit for
-  pub IsGivenUp : Socket → Type 0
+  -- a read of the socket gave octets, or their end, at this time, and then these were left to come
+  pub IsHeardAt : Socket → Duration → KnownOctets → Type 0
+  -- a read of the socket gave no octets at this time, since none had come, and these were left to come
+  pub IsIdleAt : Socket → Duration → KnownOctets → Type 0
+  -- the socket was given up after so many looks
+  pub IsGivenUp : Socket → ℕ → Type 0
   -- all octets that come on the socket, in order, if they are known
   pub octets : Socket → KnownOctets
+
+-- What is said of the time of a call, if the clock gave it one. Otherwise the clock failed.
+abbrev pub AtTime : Type 0 → (Duration → Type 0) → Option Duration → Type 0
+AtTime HasNoClock Is (Some time) = Is time
+AtTime HasNoClock Is None = HasNoClock
+
+-- It may be waited until this time, if the wait is not for no time at all.
+abbrev pub IsAllowed : (Duration → Type 0) → Duration → Duration → Type 0
+IsAllowed MayWait until most = 0 < as_nanos most → ∥ MayWait until ∥₁

@@ -1,12 +1,12 @@
 //! A link to a host: a source and a sink over one socket, with time limits.
-ghost use Rattle.std.specs.Prelude.{◌≡◌, ◌<◌, None, length, IfOk, IfSome, OnOk, OnErr, IsErr};
-ghost use Rattle.std.specs.Option.{ForSome};
+ghost use Rattle.std.specs.Prelude.{◌≡◌, ◌<◌, None, Some, length, IfOk, IfSome, OnOk, OnErr, IsErr};
+ghost use Rattle.std.specs.Option.{ForSome, ForNone};
 ghost use Rattle.std.specs.Io.{ReadsAtMost, WritesAtMost};
 ghost use Rattle.zoom_io.specs.Devices.{IsBoundedPoll, IsCounted, AfterRead, AfterPoll, polls_after};
 ghost use Rattle.zoom_tcp.specs.HostLinks.{IsPolled};
-ghost use Rattle.zoom_tcp.specs.Silence.{IsWithin, IsInTime, IfNotYet, HasReadFault};
+ghost use Rattle.zoom_tcp.specs.Silence.{IsWithin, IsInTime, IfNotYet, IsKnownLeft, HasReadFault, most_looks};
+ghost use Rattle.zoom_tcp.specs.SocketFacts.{AtTime};
 
-use crate::limits::left_of;
 use crate::network::{Network, Poller};
 use crate::sockets::{Sockets, Transfer};
 use crate::times::{Limited, Times};
@@ -21,7 +21,7 @@ struct TimedSocket<'a, S: Sockets, K: Limited> {
     network: &'a Network<S>,
     socket: Rc<S::Socket>,
     token: usize,
-    times: Times<K>,
+    times: Times<S, K>,
 }
 
 /// The source of a link. A read waits until octets come, and a poll need not.
@@ -38,7 +38,8 @@ pub struct HostSource<'a, S: Sockets, K: Limited> {
     looked: u64,
     failures: u64,
     polls: u64,
-    ghost heard: { ForSome came_at (λ came. ∥ S.facts.IsMoment came ∥₁) },
+    ghost unread: { ForNone came_at (S.octets_left timed.socket.value cursor ≡ S.facts.octets timed.socket.value) },
+    ghost left: { ForSome came_at (IsKnownLeft S.facts timed.socket.value (S.octets_left timed.socket.value cursor)) },
     ghost fault: { 0 < failures → HasReadFault S.facts K.limits K.begun },
 }
 
@@ -76,13 +77,10 @@ impl<'a, S: Sockets, K: Limited> TimedSocket<'a, S, K> {
         Ok(now)
     }
 
-    /// What is left of the time for everything.
-    fn total_left(&self, now: Duration) -> Duration {
-        self.times.limits.total_left(self.times.begun, now)
-    }
-
-    /// A link over this socket and a second handle of it. Neither half has a failed call yet.
+    /// A link over this socket, of which nothing was read, and a second handle of it. Neither half has a failed call
+    /// yet.
     fn link(self, cursor: S::Cursor, other: Rc<S::Socket>) -> HostLink<'a, S, K>
+        requires { S.octets_left self.socket.value cursor ≡ S.facts.octets self.socket.value }
         ensures sound { (result.source.failures ≡ 0) × (result.sink.failures ≡ 0) }
         ensures polls { result.source.polls ≡ 0 }
         ensures socket { result.source.timed.socket.value ≡ self.entry.socket.value }
@@ -117,7 +115,7 @@ impl<'a, S: Sockets, K: Limited> HostLink<'a, S, K> {
         network: &'a Network<S>,
         socket: Rc<S::Socket>,
         token: usize,
-        times: Times<K>,
+        times: Times<S, K>,
     ) -> Result<HostLink<'a, S, K>, AllocError>
         ensures sound { IfOk result (λ link. (link.source.failures ≡ 0) × (link.sink.failures ≡ 0)) }
         ensures polls { IfOk result (λ link. link.source.polls ≡ 0) }
@@ -213,25 +211,74 @@ impl<'a, S: Sockets, K: Limited> HostSource<'a, S, K> {
     {
         let network = self.timed.network;
         let now = self.timed.now()?;
-        self.came_at = Some(self.came_at.unwrap_or(now));
-        self.looked = self.look_around(poller, now, wait);
+        let came = self.begin(now);
+        self.looked = self.look_around(poller, came, now, wait);
         match poller.flush(&network.sockets, self.timed.token, &self.timed.socket) {
             Ok(()) => {}
             Err(_) => return Err(Failed),
         }
-        match poller.read(
+        self.read_in_time(poller, piece, came)
+    }
+
+    /// When octets came last. If it was not polled yet, notes that it is now.
+    fn begin(&mut self, now: Duration) -> Duration
+        requires { S.facts.IsMoment now }
+        ensures came { self.new.came_at ≡ Some result }
+        ensures cursor { self.new.cursor ≡ self.old.cursor }
+        ensures failures { self.new.failures ≡ self.old.failures }
+        ensures polls { self.new.polls ≡ self.old.polls }
+        ensures socket { self.new.timed ≡ self.old.timed }
+    {
+        match self.came_at {
+            Some(came) => came,
+            None => {
+                self.came_at = Some(now);
+                now
+            }
+        }
+    }
+
+    /// Reads the octets that have come, if any were reported. Once the patience is over, it reads in any case, and
+    /// fails if none have come.
+    fn read_in_time(
+        &mut self,
+        poller: &mut Poller,
+        piece: &mut [u8],
+        came: Duration,
+    ) -> Result<Option<usize>, Failed>
+        requires { self.old.came_at ≡ Some came }
+        // the octets
+        ensures bound { IsBoundedPoll result piece.new }
+        ensures octets { IsPolled (S.octets_left self.old.timed.socket.value self.old.cursor)
+            (S.octets_left self.new.timed.socket.value self.new.cursor) result piece.new }
+        // the counts
+        ensures failures { self.new.failures ≡ self.old.failures }
+        ensures polls { self.new.polls ≡ self.old.polls }
+        // if it fails, and if none have come yet
+        ensures fault { OnErr result (HasReadFault S.facts K.limits K.begun) }
+        ensures early { IfNotYet result (IsInTime S.facts.IsMoment K.limits K.begun self.new.came_at) }
+    {
+        let network = self.timed.network;
+        let now = self.timed.now()?;
+        let is_over = self.timed.times.is_patience_over(came, now);
+        if !is_over && !poller.ready_of(self.timed.token).readable {
+            poller.note_deadline(self.deadline(came));
+            return Ok(None);
+        }
+        let received = poller.read(
             &network.sockets,
             self.timed.token,
             &self.timed.socket,
             &mut self.cursor,
             piece,
-        ) {
+        );
+        match received.moved {
             Transfer::Octets(count) => {
-                self.came_at = Some(network.sockets.now().unwrap_or(now));
+                self.came_at = Some(received.at.unwrap_or(now));
                 Ok(Some(count))
             }
             Transfer::NotYet => {
-                self.await_more(poller)?;
+                self.await_more(poller, came, received.at)?;
                 Ok(None)
             }
             Transfer::Failure => Err(Failed),
@@ -241,44 +288,63 @@ impl<'a, S: Sockets, K: Limited> HostSource<'a, S, K> {
     /// Looks for reports if this socket is not readable. If `wait` holds, waits for any link. Otherwise it does not
     /// wait, and it does not look if another link has looked since this one was last polled. Returns the count of the
     /// network's looks, or of those at the last poll if it did not look.
-    fn look_around(&self, poller: &mut Poller, now: Duration, wait: bool) -> u64 {
+    fn look_around(&self, poller: &mut Poller, came: Duration, now: Duration, wait: bool) -> u64
+        requires { self.now.came_at ≡ Some came }
+    {
         let sockets = &self.timed.network.sockets;
         if poller.ready_of(self.timed.token).readable {
             return self.looked;
         }
         if wait {
-            poller.note_deadline(self.deadline(now));
-            poller.wait_for_any(sockets, now);
+            let until = self.deadline(came);
+            poller.note_deadline(until);
+            poller.listen_for_any(sockets, &self.timed.socket, &self.cursor, until, now);
         } else if poller.looks == self.looked {
-            poller.wait(sockets, Duration::ZERO);
+            poller.look_now(sockets);
         }
         poller.looks
     }
 
-    /// Notes by when octets have to come. Fails if that time is over.
-    fn await_more(&self, poller: &mut Poller) -> Result<(), Failed>
+    /// Notes by when octets have to come, of which none had come at this time. Fails if that time is over.
+    fn await_more(
+        &self,
+        poller: &mut Poller,
+        came: Duration,
+        at: Option<Duration>,
+    ) -> Result<(), Failed>
+        requires came { self.now.came_at ≡ Some came }
+        requires seen { IfSome at S.facts.IsMoment }
+        requires idle { AtTime S.facts.HasNoClock (λ time. S.facts.IsIdleAt self.now.timed.socket.value time
+            (S.octets_left self.now.timed.socket.value self.now.cursor)) at }
         ensures early { OnOk result (IsInTime S.facts.IsMoment K.limits K.begun self.now.came_at) }
         ensures fault { OnErr result (HasReadFault S.facts K.limits K.begun) }
     {
-        let now = self.timed.now()?;
-        if let Some(came) = self.came_at
-            && self.timed.times.is_patience_over(came, now)
-        {
+        let Some(at) = at else {
+            return Err(Failed);
+        };
+        let times = &self.timed.times;
+        if times.is_patience_over(came, at) {
             return Err(Failed);
         }
-        poller.note_deadline(self.deadline(now));
+        if times.is_total_over(at) {
+            return Err(Failed);
+        }
+        poller.note_deadline(self.deadline(came));
         Ok(())
     }
 
-    /// The time by which octets have to come.
-    fn deadline(&self, now: Duration) -> Duration {
-        let patience = self.timed.times.limits.patience;
-        let left = left_of(patience, self.came_at.unwrap_or(now), now);
-        now.saturating_add(left.min(self.timed.total_left(now)))
+    /// The time by which octets have to come. It may be waited for them until then.
+    fn deadline(&self, came: Duration) -> Duration
+        requires { self.now.came_at ≡ Some came }
+        ensures { ∥ S.MayListen self.now.timed.socket.value
+            (S.octets_left self.now.timed.socket.value self.now.cursor) result ∥₁ }
+    {
+        self.timed.times.end_of(came)
     }
 
-    /// Reads for the last time, also if nothing was reported. Gives up the socket if no octets have come yet.
-    fn read_last(&mut self, piece: &mut [u8]) -> Result<usize, Failed>
+    /// Reads for the last time, after so many looks. Gives up the socket if no octets have come yet.
+    fn read_last(&mut self, piece: &mut [u8], looks: u64) -> Result<usize, Failed>
+        requires { looks ≡ most_looks }
         ensures bound { ReadsAtMost result piece.new }
         ensures reads { AfterRead
             (record {
@@ -298,10 +364,14 @@ impl<'a, S: Sockets, K: Limited> HostSource<'a, S, K> {
         }
         let sockets = &self.timed.network.sockets;
         let socket: &S::Socket = &self.timed.socket;
-        match sockets.read(socket, &mut self.cursor, piece) {
-            Transfer::Octets(count) => Ok(count),
+        let received = sockets.read(socket, &mut self.cursor, piece);
+        match received.moved {
+            Transfer::Octets(count) => {
+                self.came_at = Some(received.at.unwrap_or(Duration::ZERO));
+                Ok(count)
+            }
             Transfer::NotYet => {
-                sockets.give_up(socket);
+                sockets.give_up(socket, looks);
                 self.failures = self.failures.saturating_add(1);
                 Err(Failed)
             }
@@ -371,13 +441,15 @@ impl<'a, S: Sockets, K: Limited> Source for HostSource<'a, S, K> {
     ghost state = { λ p. record { octets = S.octets_left p.timed.socket.value p.cursor; failures = p.failures } };
 
     fn read(&mut self, piece: &mut [u8]) -> Result<usize, Failed> {
-        for _ in 0..u64::MAX {
+        let mut looks = 0;
+        while looks < u64::MAX {
             match self.receive(piece, true)? {
                 Some(count) => return Ok(count),
                 None => {}
             }
+            looks += 1;
         }
-        self.read_last(piece)
+        self.read_last(piece, looks)
     }
 
     fn failures(&self) -> u64 {

@@ -1,8 +1,8 @@
 //! Talks with hosts at once, while other hosts are still being connected to.
-ghost use Rattle.std.specs.Prelude.{◌≡◌, ◌<◌, ◌≤◌, ◌^◌, ℕ, ◌+◌, List, length, IfOk, OnOk};
+ghost use Rattle.std.specs.Prelude.{◌≡◌, ◌<◌, ◌≤◌, ◌^◌, ℕ, true, ◌+◌, List, length, IfOk, IfNone, IfSome, OnOk};
 ghost use Rattle.zoom_tcp.specs.Asking.{HostClaims};
 ghost use Rattle.zoom_tcp.specs.AskingSteps.{AfterOpen};
-ghost use Rattle.zoom_tcp.specs.HostTalks.{host_view, view_if, IsReachedOver, HostStep, HostsStep, AfterRoundOfHosts, AreHostsOver, IsHostOver, IsBegun};
+ghost use Rattle.zoom_tcp.specs.HostTalks.{host_view, view_if, IsReachedOver, IsStillFor, HostStep, HostsStep, AfterRoundOfHosts, AreHostsOver, IsHostOver, IsBegun};
 
 use crate::opening::begin;
 use std::alloc::{AllocError, Global};
@@ -10,7 +10,7 @@ use zoom_io::{Halves, NonBlocking, Part, Sink, TalkPhase, Watch, take_leave, tak
 use zoom_pool::{Meta, Reason};
 
 /// The most rounds; each polls every host once.
-const ROUNDS: u32 = 1_000_000_000;
+const ROUNDS: u64 = 1_000_000_000;
 
 /// How an attempt to reach a host stands.
 #[derive(Drop)]
@@ -32,17 +32,17 @@ pub(crate) trait Reach<R: NonBlocking, W> {
     ghost claims: { List ℕ → HostClaims };
 
     /// Looks how the attempt stands. If `wait` holds, it may wait for a change of any host, at most a quarter of a
-    /// second. It stays an attempt at its host, and a link is one to that host.
+    /// second. Until the host is reached or cannot be, it stays an attempt at its host. A link is one to that host.
     fn look(&mut self, wait: bool) -> Result<Reached<R, W>, AllocError>
-        ensures stays { (name : List ℕ) → IsFor name self.old → IsFor name self.new }
+        ensures stays { (name : List ℕ) → IsFor name self.old → IfOk result (IsStillFor (IsFor name self.new)) }
         ensures own { (name : List ℕ) → IsFor name self.old → IfOk result (IsReachedOver R.state (claims name)) };
 
-    /// Attempts of this kind may be given up.
-    ghost MayEnd: { Type 0 };
+    /// Attempts of this kind may be given up after so many looks.
+    ghost MayEnd: { ℕ → Type 0 };
 
-    /// Gives up the attempt: the host is not reached.
-    fn end(&mut self)
-        requires { MayEnd }
+    /// Gives up the attempt after so many looks: the host is not reached.
+    fn end(&mut self, looks: u64)
+        requires { MayEnd looks }
         ensures { (name : List ℕ) → IsFor name self.old → (claims name).IsUnreached };
 }
 
@@ -68,7 +68,7 @@ pub(crate) fn talk_with_all<A: Reach<R, W> + Drop, R: NonBlocking + Drop, W: Sin
 ) -> Result<(), AllocError>
     requires few { length meta.old.pool.connections < 2 ^ 32 }
     requires equal { length talks.old ≡ length meta.old.pool.connections }
-    requires ends { A.MayEnd }
+    requires ends { A.MayEnd 1000000000 }
     // the talks, if memory is found
     ensures talks { OnOk result (HostsStep A.IsFor A.claims (host_view R.state R.polls W.state) 0 1000000000 talks.old
         talks.new meta.old meta.new) }
@@ -77,39 +77,47 @@ pub(crate) fn talk_with_all<A: Reach<R, W> + Drop, R: NonBlocking + Drop, W: Sin
     ensures size { length meta.new.pool.connections ≡ length meta.old.pool.connections }
     ensures hosts { length talks.new ≡ length talks.old }
 {
-    go_rounds(alloc, meta, talks, watch)?;
-    end_all(alloc, meta, talks)
+    match go_rounds(alloc, meta, talks, watch)? {
+        Some(rounds) => end_all(alloc, meta, talks, rounds),
+        None => Ok(()),
+    }
 }
 
-/// Goes at most 1,000,000,000 rounds, or fewer if every host is over earlier.
+/// Goes 1,000,000,000 rounds, or fewer if every host is over earlier. Returns how many, unless every host is over.
 fn go_rounds<A: Reach<R, W> + Drop, R: NonBlocking + Drop, W: Sink + Drop, V: Watch>(
     alloc: Global,
     meta: &mut Meta,
     talks: &mut [HostTalk<A, R, W>],
     watch: &mut V,
-) -> Result<(), AllocError>
+) -> Result<Option<u64>, AllocError>
     requires few { length meta.old.pool.connections < 2 ^ 32 }
     requires equal { length talks.old ≡ length meta.old.pool.connections }
     ensures rounds { OnOk result (HostsStep A.IsFor A.claims (host_view R.state R.polls W.state) 0 1000000000 talks.old
         talks.new meta.old meta.new) }
+    ensures all { IfOk result (λ left. IfSome left (λ rounds. rounds ≡ 1000000000)) }
+    ensures over { IfOk result (λ left. IfNone left (AreHostsOver (host_view R.state R.polls W.state) talks.new)) }
     ensures size { length meta.new.pool.connections ≡ length meta.old.pool.connections }
     ensures hosts { length talks.new ≡ length talks.old }
 {
     let mut idle = false;
-    for _ in 0..ROUNDS {
+    let mut rounds = 0;
+    while rounds < ROUNDS {
         if are_over(talks) {
-            return Ok(());
+            return Ok(None);
         }
         watch.look(meta);
         idle = go_round(alloc, meta, talks, idle)?;
+        rounds += 1;
     }
-    Ok(())
+    Ok(Some(rounds))
 }
 
 /// Whether every host is over.
-fn are_over<A, R, W>(talks: &[HostTalk<A, R, W>]) -> bool {
-    for talk in talks {
-        if !is_over(talk) {
+fn are_over<A, R: NonBlocking, W: Sink>(talks: &[HostTalk<A, R, W>]) -> bool
+    ensures { result ≡ true → AreHostsOver (host_view R.state R.polls W.state) talks.now }
+{
+    for i in 0..talks.len() {
+        if !is_over(&talks[i]) {
             return false;
         }
     }
@@ -117,7 +125,9 @@ fn are_over<A, R, W>(talks: &[HostTalk<A, R, W>]) -> bool {
 }
 
 /// Whether nothing more happens with a host.
-fn is_over<A, R, W>(talk: &HostTalk<A, R, W>) -> bool {
+fn is_over<A, R: NonBlocking, W: Sink>(talk: &HostTalk<A, R, W>) -> bool
+    ensures { result ≡ true → IsHostOver (host_view R.state R.polls W.state talk.now) }
+{
     match talk {
         HostTalk::Out => true,
         HostTalk::Connecting(_) => false,
@@ -192,7 +202,8 @@ fn connect<A: Reach<R, W> + Drop, R: NonBlocking + Drop, W: Sink + Drop>(
     requires { c < length meta.old.pool.connections }
     ensures begun { (name : List ℕ) → A.IsFor name attempt.old → IfOk result (λ next. IsBegun (A.claims name) c
         (view_if (host_view R.state R.polls W.state) next) meta.old meta.new) }
-    ensures stays { (name : List ℕ) → A.IsFor name attempt.old → A.IsFor name attempt.new }
+    ensures stays { (name : List ℕ) → A.IsFor name attempt.old → IfOk result (λ next. IfNone next
+        (A.IsFor name attempt.new)) }
     ensures size { length meta.new.pool.connections ≡ length meta.old.pool.connections }
 {
     match attempt.look(wait)? {
@@ -211,16 +222,17 @@ fn connect<A: Reach<R, W> + Drop, R: NonBlocking + Drop, W: Sink + Drop>(
     }
 }
 
-/// Ends what is not over: stops a connection whose host is not reached for `Connect`, and one whose talk goes on for
-/// `Turns`.
+/// Ends what is not over after so many rounds: stops a connection whose host is not reached for `Connect`, and one
+/// whose talk goes on for `Turns`.
 fn end_all<A: Reach<R, W> + Drop, R: NonBlocking + Drop, W: Sink + Drop>(
     alloc: Global,
     meta: &mut Meta,
     talks: &mut [HostTalk<A, R, W>],
+    rounds: u64,
 ) -> Result<(), AllocError>
     requires few { length meta.old.pool.connections < 2 ^ 32 }
     requires equal { length talks.old ≡ length meta.old.pool.connections }
-    requires ends { A.MayEnd }
+    requires ends { A.MayEnd rounds }
     // the last step of each, if memory is found
     ensures ends { OnOk result ((n : ℕ) → n ≤ 1000000000 → HostsStep A.IsFor A.claims
         (host_view R.state R.polls W.state) n n talks.old talks.new meta.old meta.new) }
@@ -230,20 +242,21 @@ fn end_all<A: Reach<R, W> + Drop, R: NonBlocking + Drop, W: Sink + Drop>(
     ensures hosts { length talks.new ≡ length talks.old }
 {
     for c in 0..talks.len() {
-        end_one(alloc, meta, c as u32, &mut talks[c])?;
+        end_one(alloc, meta, c as u32, &mut talks[c], rounds)?;
     }
     Ok(())
 }
 
-/// Ends a host's part if it is not over.
+/// Ends a host's part after so many rounds, if it is not over.
 fn end_one<A: Reach<R, W> + Drop, R: NonBlocking + Drop, W: Sink + Drop>(
     alloc: Global,
     meta: &mut Meta,
     c: u32,
     talk: &mut HostTalk<A, R, W>,
+    rounds: u64,
 ) -> Result<(), AllocError>
     requires place { c < length meta.old.pool.connections }
-    requires ends { A.MayEnd }
+    requires ends { A.MayEnd rounds }
     ensures ends { OnOk result ((n : ℕ) → n ≤ 1000000000 → HostStep A.IsFor A.claims c n n meta.old meta.new
         (host_view R.state R.polls W.state talk.old) (host_view R.state R.polls W.state talk.new)) }
     ensures over { OnOk result (IsHostOver (host_view R.state R.polls W.state talk.new)) }
@@ -252,7 +265,7 @@ fn end_one<A: Reach<R, W> + Drop, R: NonBlocking + Drop, W: Sink + Drop>(
     match talk {
         HostTalk::Out => Ok(()),
         HostTalk::Connecting(attempt) => {
-            attempt.end();
+            attempt.end(rounds);
             meta.stop(c, Reason::Connect);
             *talk = HostTalk::Out;
             Ok(())

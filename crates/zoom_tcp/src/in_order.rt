@@ -1,12 +1,11 @@
 //! Asks hosts one after the other.
 ghost use Rattle.std.specs.Prelude.{◌≡◌, ◌<◌, ◌^◌, ℕ, List, Option, false, length, IfOk, OnOk};
-ghost use Rattle.std.specs.declared.time.Duration.{Duration};
 ghost use Rattle.zoom_questions.specs.Askable.{AreFit, AreAskable};
 ghost use Rattle.zoom_io.specs.TalksAmong.{halves_at};
 ghost use Rattle.zoom_tcp.specs.Asking.{is_present, octets_of, IsAsked, IsAskedOver};
 ghost use Rattle.zoom_tcp.specs.AskingSteps.{AfterTalkOn, AfterTalkAll};
-ghost use Rattle.zoom_tcp.specs.Connecting.{IsSeen, claims_of};
-ghost use Rattle.zoom_tcp.specs.Silence.{HasReadFault};
+ghost use Rattle.zoom_tcp.specs.Connecting.{claims_of};
+ghost use Rattle.zoom_tcp.specs.Silence.{HasReadFault, AllowsWaits, AllowsListening};
 
 use crate::host_link::HostLink;
 use crate::limits::Limits;
@@ -50,20 +49,27 @@ pub fn ask<N: Net + Clock, V: Watch>(
     requires equal { length addresses.now ≡ length questions.items }
     ensures asked { IfOk result (λ meta. IsAsked questions.items settings false (is_present addresses.now) meta) }
 {
-    let network = Network::new(alloc, TcpSockets::new(alloc, net)?);
+    let sockets = TcpSockets::new(alloc, net)?;
+    let begun = sockets.now().unwrap_or(Duration::ZERO);
+    let network = Network::new(alloc, sockets);
     ask_over(
-        alloc, &network, questions, settings, addresses, limits, watch,
+        alloc, &network, questions, settings, addresses, limits, begun, watch,
     )
 }
 
-/// Does what `ask` does, over the sockets of a network. Each connection is talked with over a link of its own: its
-/// socket was opened for one of the addresses that were found for its name, and is connected. The octets that came over
-/// it first are those that were read.
+/// Does what `ask` does, over the sockets of a network, if everything began at `begun`. Each connection is talked with
+/// over a link of its own: its socket was opened for one of the addresses that were found for its name, and is
+/// connected. The octets that came over it first are those that were read.
 ///
 /// A connection is stopped for `Connect` only if connecting to each address of its name failed, if its time was over,
 /// or if the clock failed (`IsUnreached`). It is stopped for `Read` only if its host was silent for as long as the
-/// patience, if the total was over, or if the clock or a socket failed (`ReadFault`). Times are those that the clock
-/// gave. After as many looks as there can be, a socket is given up.
+/// patience, if the total was over, or if the clock or a socket failed (`ReadFault`). A host is silent while the octets
+/// that are left to come stay the same. Times are those that the clock gave. A socket that no limit ends is given up
+/// after 18,446,744,073,709,551,615 looks.
+///
+/// It waits no longer than the total from `begun` on. It waits for hosts to connect no longer than the patience from
+/// when connecting began (`IsWaitWithin`), and for octets of a host no longer than the patience from when they came
+/// last, or when it was first polled (`IsListenWithin`). Sockets may forbid all other waits (`waits`, `listens`).
 pub fn ask_over<S: Sockets, V: Watch>(
     alloc: Global,
     network: &Network<S>,
@@ -71,23 +77,25 @@ pub fn ask_over<S: Sockets, V: Watch>(
     settings: MetaSettings,
     addresses: &[Option<Bytes>],
     limits: Limits,
+    begun: Duration,
     watch: &mut V,
 ) -> Result<Meta, AllocError>
     requires some { length questions.items < 2 ^ 32 }
     requires askable { AreAskable questions.items }
     requires fit { AreFit settings }
     requires equal { length addresses.now ≡ length questions.items }
-    ensures asked { IfOk result (λ meta. (begun : Duration) × IsSeen S.facts begun × IsAskedOver
+    requires waits { AllowsWaits S.facts S.MayWait limits begun }
+    requires listens { AllowsListening S.facts S.MayListen limits begun }
+    ensures asked { IfOk result (λ meta. IsAskedOver
         (λ c. claims_of S.facts limits begun false (halves_at addresses.now c))
         questions.items settings false (is_present addresses.now) meta) }
 {
-    let begun = network.time_or(Duration::ZERO);
     ask_since::<S, Brand, V>(
         alloc, network, questions, settings, addresses, limits, begun, watch,
     )
 }
 
-/// Does what `ask_over` does, within limits of which the time for everything began at `begun`.
+/// Does what `ask_over` does, within limits that contracts name.
 fn ask_since<S: Sockets, K: Limited, V: Watch>(
     alloc: Global,
     network: &Network<S>,
@@ -102,7 +110,8 @@ fn ask_since<S: Sockets, K: Limited, V: Watch>(
     requires limits { limits ≡ K.limits }
     requires begun { begun ≡ K.begun }
     requires mode { K.at_once ≡ false }
-    requires seen { IsSeen S.facts begun }
+    requires waits { AllowsWaits S.facts S.MayWait K.limits K.begun }
+    requires listens { AllowsListening S.facts S.MayListen K.limits K.begun }
     // the questions
     requires some { length questions.items < 2 ^ 32 }
     requires askable { AreAskable questions.items }
@@ -112,7 +121,7 @@ fn ask_since<S: Sockets, K: Limited, V: Watch>(
         (λ c. claims_of S.facts K.limits K.begun K.at_once (halves_at addresses.now c))
         questions.items settings false (is_present addresses.now) meta) }
 {
-    let times = Times::<K>::new(limits, begun);
+    let times = Times::<S, K>::new(limits, begun);
     let mut meta = Meta::new(alloc, Seq::from_vec(questions), settings)?;
     let links = open_all(alloc, network, &mut meta, addresses, &times, watch)?;
     talk_all(alloc, &mut meta, links, watch)?;

@@ -2,6 +2,7 @@
 #![tactic(auto)]
 
 mod at_once;
+mod attempt;
 mod clients;
 mod connecting;
 mod host_link;
@@ -25,5 +26,5 @@ pub use link::TcpLink;
 pub use loopback::run_loopback;
 pub use network::Network;
 pub use service::{ServeError, serve, serve_over};
-pub use sockets::{ConnectProgress, Readiness, Sockets, Transfer};
+pub use sockets::{ConnectProgress, Readiness, Received, Sockets, Transfer};
 pub use tcp_sockets::TcpSockets;

@@ -1,7 +1,7 @@
 //! The time limits of asking hosts.
-ghost use Rattle.std.specs.Prelude.{◌≡◌, ◌-◌, ◌*◌, true, false, is_some, IfSome};
+ghost use Rattle.std.specs.Prelude.{◌≡◌, ◌<◌, ◌≤◌, ◌-◌, ◌*◌, true, false, is_some, IfSome};
 ghost use Rattle.std.specs.Duration.{as_nanos};
-ghost use Rattle.zoom_tcp.specs.Silence.{IsWithin, IsOver, IsTotalOver};
+ghost use Rattle.zoom_tcp.specs.Silence.{IsWithin, IsOver, IsNoLater, IsTotalOver};
 
 use std::time::Duration;
 
@@ -34,13 +34,16 @@ impl Limits {
         }
     }
 
-    /// What is left of the time for everything, if it began at `begun`.
-    pub(crate) fn total_left(&self, begun: Duration, now: Duration) -> Duration
-        ensures { IfSome self.now.total (λ total. as_nanos result ≡ as_nanos total - (as_nanos now - as_nanos begun)) }
+    /// The end of the time for what began at `since`: the patience, and no more than is left for everything, which
+    /// began at `begun`.
+    pub(crate) fn end_of(&self, begun: Duration, since: Duration) -> Duration
+        ensures patient { IsNoLater since result self.now.patience }
+        ensures total { IfSome self.now.total (IsNoLater begun result) }
     {
+        let patient = since.saturating_add(self.patience);
         match self.total {
-            Some(total) => left_of(total, begun, now),
-            None => Duration::MAX,
+            Some(total) => sooner_of(patient, begun.saturating_add(total)),
+            None => patient,
         }
     }
 
@@ -56,17 +59,25 @@ impl Limits {
     }
 }
 
-/// What is left at `now` of a span of time that began at `begun`: zero if the span is over.
-pub(crate) fn left_of(span: Duration, begun: Duration, now: Duration) -> Duration
-    ensures { as_nanos result ≡ as_nanos span - (as_nanos now - as_nanos begun) }
-{
-    span.saturating_sub(now.saturating_sub(begun))
-}
-
 /// Whether a span of time that began at `begun` is over at `now`.
 pub(crate) fn is_over(span: Duration, begun: Duration, now: Duration) -> bool
     ensures over { result ≡ true → IsOver begun now span }
     ensures within { result ≡ false → IsWithin begun now span }
 {
-    left_of(span, begun, now).is_zero()
+    span.saturating_sub(now.saturating_sub(begun)).is_zero()
+}
+
+/// Whether a time that began at `since` has ended by `until`. It lasts at least until the clock moves.
+pub(crate) fn has_ended(since: Duration, until: Duration, now: Duration) -> bool
+    ensures { result ≡ true → as_nanos since < as_nanos now }
+{
+    until <= now && !now.saturating_sub(since).is_zero()
+}
+
+/// The sooner of two times.
+pub(crate) fn sooner_of(one: Duration, other: Duration) -> Duration
+    ensures one { as_nanos result ≤ as_nanos one }
+    ensures other { as_nanos result ≤ as_nanos other }
+{
+    one.saturating_sub(one.saturating_sub(other))
 }

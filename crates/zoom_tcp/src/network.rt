@@ -1,10 +1,12 @@
 //! The sockets of all links, what each is ready for, and what it has not sent yet.
 ghost use Rattle.std.specs.Prelude.{◌≡◌, ◌<◌, length, IfOk, OnErr};
 ghost use Rattle.std.specs.Io.{WritesAtMost};
-ghost use Rattle.zoom_tcp.specs.HostLinks.{IsBoundedTransfer, IsBrokenIf, AfterLook, AfterReadFrom};
-ghost use Rattle.zoom_tcp.specs.Connecting.{IsSeen};
+ghost use Rattle.zoom_tcp.specs.HostLinks.{IsBoundedTransfer, IsBrokenIf, AfterLook, AfterReadFrom, AfterReceive};
+ghost use Rattle.zoom_tcp.specs.Silence.{IsSeen};
+ghost use Rattle.zoom_tcp.specs.SocketFacts.{IsAllowed};
 
-use crate::sockets::{ConnectProgress, Readiness, Sockets, Transfer};
+use crate::sockets::{ConnectProgress, Readiness, Received, Sockets, Transfer};
+use crate::times::Deadline;
 use bytes::BytesMut;
 use std::alloc::{AllocError, Global};
 use std::cell::Cell;
@@ -136,9 +138,16 @@ impl Poller {
         }
     }
 
-    /// Waits at most `most` for reports.
-    pub(crate) fn wait<S: Sockets>(&mut self, sockets: &S, most: Duration) {
-        if self.look(sockets, most) {
+    /// Waits for reports until this time, at most for a quarter of a second.
+    pub(crate) fn wait<S: Sockets>(&mut self, sockets: &S, until: &Deadline<S>) {
+        if self.look(sockets, until.time, Duration::from_millis(LONGEST_WAIT)) {
+            self.news = true;
+        }
+    }
+
+    /// Notes the reports that there are, without waiting.
+    pub(crate) fn look_now<S: Sockets>(&mut self, sockets: &S) {
+        if self.look(sockets, Duration::ZERO, Duration::ZERO) {
             self.news = true;
         }
     }
@@ -148,22 +157,53 @@ impl Poller {
         self.news = self.ready.iter().any(|ready| ready.readable);
     }
 
-    /// Waits for reports, no longer than each link allows. It does not wait if reports came outside of such a wait,
-    /// since links may have octets then that were not read.
-    pub(crate) fn wait_for_any<S: Sockets>(&mut self, sockets: &S, now: Duration) {
+    /// Waits for reports until this time, no longer than each link allows. It does not wait if reports came outside of
+    /// such a wait, since links may have octets then that were not read.
+    pub(crate) fn wait_for_any<S: Sockets>(
+        &mut self,
+        sockets: &S,
+        until: &Deadline<S>,
+        now: Duration,
+    ) {
+        let most = self.take_most(now);
+        self.look(sockets, until.time, most);
+    }
+
+    /// Does what `wait_for_any` does, to read octets of a socket from where the last read ended.
+    pub(crate) fn listen_for_any<S: Sockets>(
+        &mut self,
+        sockets: &S,
+        socket: &S::Socket,
+        cursor: &S::Cursor,
+        until: Duration,
+        now: Duration,
+    )
+        requires { ∥ S.MayListen socket.now (S.octets_left socket.now cursor.now) until ∥₁ }
+    {
+        let most = self.take_most(now);
+        self.looks = self.looks.wrapping_add(1);
+        sockets.listen(socket, cursor, until, most, &mut self.ready);
+    }
+
+    /// How long each link allows to wait. It is not at all if reports came outside of a wait for any link. Links may
+    /// allow more from then on.
+    fn take_most(&mut self, now: Duration) -> Duration {
         let most = self
             .nearest
             .saturating_sub(now)
             .min(Duration::from_millis(LONGEST_WAIT));
+        let most = if self.news { Duration::ZERO } else { most };
         self.nearest = Duration::MAX;
-        self.look(sockets, if self.news { Duration::ZERO } else { most });
         self.news = false;
+        most
     }
 
-    /// Waits at most `most` for reports. Returns whether a flag is set that was not.
-    fn look<S: Sockets>(&mut self, sockets: &S, most: Duration) -> bool {
+    /// Waits for reports until this time, and at most for `most`. Returns whether a flag is set that was not.
+    fn look<S: Sockets>(&mut self, sockets: &S, until: Duration, most: Duration) -> bool
+        requires { IsAllowed S.MayWait until most }
+    {
         self.looks = self.looks.wrapping_add(1);
-        sockets.wait(most, &mut self.ready)
+        sockets.wait(until, most, &mut self.ready)
     }
 
     /// How the attempt of a socket to connect stands. It is pending until the socket is reported writable.
@@ -182,7 +222,7 @@ impl Poller {
         }
     }
 
-    /// Reads from a socket that was reported readable.
+    /// Reads from a socket.
     pub(crate) fn read<S: Sockets>(
         &mut self,
         sockets: &S,
@@ -190,24 +230,21 @@ impl Poller {
         socket: &S::Socket,
         cursor: &mut S::Cursor,
         piece: &mut [u8],
-    ) -> Transfer
-        ensures bound { IsBoundedTransfer result (length piece.new) }
+    ) -> Received
+        ensures bound { IsBoundedTransfer result.moved (length piece.new) }
         ensures octets { AfterReadFrom (S.octets_left socket.now cursor.old) (S.octets_left socket.now cursor.new)
-            result piece.new }
-        ensures broken { IsBrokenIf S.facts.IsBroken socket.now result }
+            result.moved piece.new }
+        ensures received { AfterReceive S.facts socket.now (S.octets_left socket.now cursor.new) result }
     {
         let ready = self.ready_of(token);
-        if !ready.readable {
-            return Transfer::NotYet;
-        }
-        let moved = sockets.read(socket, cursor, piece);
-        let readable = match moved {
+        let received = sockets.read(socket, cursor, piece);
+        let readable = match received.moved {
             Transfer::Octets(count) => count == 0 || count == piece.len() || ready.closed,
             Transfer::NotYet => false,
             Transfer::Failure => true,
         };
         self.set_ready(token, Readiness { readable, ..ready });
-        moved
+        received
     }
 
     /// Writes to a socket that was reported writable.

@@ -3,10 +3,11 @@ ghost use Rattle.std.specs.Prelude.{◌≡◌, ◌<◌, ◌^◌, ℕ, List, Opti
 ghost use Rattle.zoom_io.specs.TalksAmong.{halves_at};
 ghost use Rattle.zoom_tcp.specs.Asking.{KnownOctets, is_present, octets_of};
 ghost use Rattle.zoom_tcp.specs.AskingSteps.{AfterOpen, AfterOpenIf, AfterOpenAll, only_link, link_over, link_when};
-ghost use Rattle.zoom_tcp.specs.Connecting.{IsSeen, IsUnreached, IsAttempt, IsFitIf, AttemptStepIf, AreAttempts, IsLinkFor, claims_of};
+ghost use Rattle.zoom_tcp.specs.Connecting.{IsUnreached, IsAttempt, IsWaited, IsFitIf, AreAttempts, IsEntryIf, AreEntries, IsLinkFor, claims_of};
 ghost use Rattle.zoom_tcp.specs.HostLinks.{IsHostLink};
 
-use crate::connecting::{Attempt, await_all, begin_attempts};
+use crate::attempt::Attempt;
+use crate::connecting::{await_all, begin_attempts};
 use crate::host_link::HostLink;
 use crate::network::Network;
 use crate::sockets::Sockets;
@@ -25,12 +26,11 @@ pub(crate) fn open_all<'a, S: Sockets, K: Limited, V: Watch>(
     network: &'a Network<S>,
     meta: &mut Meta,
     addresses: &[Option<Bytes>],
-    times: &Times<K>,
+    times: &Times<S, K>,
     watch: &mut V,
 ) -> Result<Vec<Option<HostLink<'a, S, K>>>, AllocError>
     requires few { length meta.old.pool.connections < 2 ^ 32 }
     requires equal { length addresses.now ≡ length meta.old.pool.connections }
-    requires seen { IsSeen S.facts times.now.begun }
     ensures opens { IfOk result (λ links. AfterOpenAll links.items
         (λ l. S.octets_left l.source.timed.socket.value l.source.cursor)
         (λ c. claims_of S.facts K.limits K.begun K.at_once (halves_at addresses.now c))
@@ -39,17 +39,18 @@ pub(crate) fn open_all<'a, S: Sockets, K: Limited, V: Watch>(
     ensures links { IfOk result (λ links. length links.items ≡ length addresses.now) }
 {
     let mut attempts = begin_attempts(alloc, network, addresses, times)?;
-    await_all(network, &mut attempts, meta, watch);
+    let looks = await_all(network, &mut attempts, meta, watch);
     network.end_connecting();
-    begin_all(alloc, meta, addresses, &mut attempts)
+    begin_all(alloc, meta, addresses, &mut attempts, looks)
 }
 
-/// Sends the Init on each link to a host that has an address.
+/// Sends the Init on each link to a host that has an address, after so many looks at the attempts.
 fn begin_all<'a, S: Sockets, K: Limited>(
     alloc: Global,
     meta: &mut Meta,
     addresses: &[Option<Bytes>],
     attempts: &mut [Option<Attempt<'a, S, K>>],
+    looks: u64,
 ) -> Result<Vec<Option<HostLink<'a, S, K>>>, AllocError>
     // the connections, with an address and an attempt for each, or none
     requires few { length meta.old.pool.connections < 2 ^ 32 }
@@ -58,7 +59,8 @@ fn begin_all<'a, S: Sockets, K: Limited>(
     requires named { (c : ℕ) → is_present attempts.old c ≡ is_present addresses.now c }
     // attempts for their own hosts
     requires own { AreAttempts (halves_at addresses.now) attempts.old
-        (λ name a. IsAttempt S.facts K.limits K.begun K.at_once name a.addresses.items a.place a.started a.stage) }
+        (λ name a. IsAttempt S.facts K.limits K.begun K.at_once name a.tries) }
+    requires waited { AreEntries attempts.old (λ a. IsWaited looks a.tries.stage) }
     // the links
     ensures opens { IfOk result (λ links. AfterOpenAll links.items
         (λ l. S.octets_left l.source.timed.socket.value l.source.cursor)
@@ -70,27 +72,27 @@ fn begin_all<'a, S: Sockets, K: Limited>(
 {
     let mut links = Vec::new(alloc);
     for c in 0..addresses.len() {
-        let link = link_if(&mut attempts[c])?;
+        let link = link_if(&mut attempts[c], looks)?;
         links.push(begin_if(alloc, meta, c as u32, &addresses[c], link)?)?;
     }
     Ok(links)
 }
 
-/// The link that an attempt has made, if there is one.
+/// The link that an attempt has made after so many looks, if there is one.
 fn link_if<'a, S: Sockets, K: Limited>(
     attempt: &mut Option<Attempt<'a, S, K>>,
+    looks: u64,
 ) -> Result<Option<HostLink<'a, S, K>>, AllocError>
-    ensures stays { AttemptStepIf attempt.old attempt.new
-        (λ name a. IsAttempt S.facts K.limits K.begun K.at_once name a.addresses.items a.place a.started a.stage) }
+    requires { IsEntryIf attempt.old (λ a. IsWaited looks a.tries.stage) }
     ensures named { is_some attempt.new ≡ is_some attempt.old }
     ensures own { (address : Option (List ℕ)) → is_some attempt.old ≡ is_some address → IsFitIf address attempt.old
-        (λ name a. IsAttempt S.facts K.limits K.begun K.at_once name a.addresses.items a.place a.started a.stage)
+        (λ name a. IsAttempt S.facts K.limits K.begun K.at_once name a.tries)
         → IfOk result (λ link. IsLinkFor address link
         (λ name l. IsHostLink S.facts name (S.octets_left l.source.timed.socket.value l.source.cursor))
         (IsUnreached S.facts K.limits K.begun K.at_once)) }
 {
     match attempt {
-        Some(attempt) => attempt.link(),
+        Some(attempt) => attempt.link(looks),
         None => Ok(None),
     }
 }

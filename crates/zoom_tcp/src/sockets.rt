@@ -1,7 +1,7 @@
 //! The sockets that links stand on, and a way to wait until one of them is ready.
 ghost use Rattle.std.specs.Prelude.{◌≡◌, ℕ, List, length, Option, IfOk, IfSome, IfNone};
-ghost use Rattle.zoom_tcp.specs.HostLinks.{IsBoundedTransfer, IsBrokenIf, AfterProgress, AfterReadFrom, AfterTransfer};
-ghost use Rattle.zoom_tcp.specs.SocketFacts.{SocketFacts};
+ghost use Rattle.zoom_tcp.specs.HostLinks.{IsBoundedTransfer, IsBrokenIf, AfterProgress, AfterReadFrom, AfterReceive};
+ghost use Rattle.zoom_tcp.specs.SocketFacts.{SocketFacts, IsAllowed};
 
 use std::alloc::{AllocError, Global};
 use std::time::Duration;
@@ -28,6 +28,15 @@ pub enum Transfer {
     Failure,
 }
 
+/// What a read gave, and when.
+#[derive(Clone, Copy, Debug, PartialEq, Eq)]
+pub struct Received {
+    /// How many octets were read, if any had come.
+    pub moved: Transfer,
+    /// The time of the clock then, or `None` if it failed.
+    pub at: Option<Duration>,
+}
+
 /// How an attempt to connect stands.
 #[derive(Clone, Copy, Debug, PartialEq, Eq)]
 pub enum ConnectProgress {
@@ -39,7 +48,7 @@ pub enum ConnectProgress {
     Refused,
 }
 
-/// Sockets to hosts. Of these calls only `resolve` and `wait` wait for anything.
+/// Sockets to hosts. Of these calls only `resolve`, `wait` and `listen` wait for anything.
 ///
 /// Each change of a socket is reported once. The next change is reported after a call that moved nothing yet, and
 /// after a read that filled its room only in part.
@@ -47,6 +56,8 @@ pub enum ConnectProgress {
 /// The contracts of `ask_over` and `ask_at_once_over` speak of what the calls here gave, by the ghost members. Sockets
 /// in memory can tell exactly what they are; those of a system tell what their values say.
 pub trait Sockets {
+    ghost use Rattle.std.specs.declared.time.Duration.{Duration};
+
     /// An address of a host.
     type Address: Drop;
 
@@ -84,24 +95,43 @@ pub trait Sockets {
     fn first(socket: &Self::Socket) -> Self::Cursor
         ensures { octets_left socket.now result ≡ facts.octets socket.now };
 
-    /// Waits at most `most` for reports, and notes them in `ready` by token. Returns whether a flag is set that was
-    /// not.
-    fn wait(&self, most: Duration, ready: &mut [Readiness]) -> bool;
+    /// It may be waited until this time for hosts to connect. Sockets in memory can forbid other waits; those of a
+    /// system allow each.
+    ghost MayWait: { Duration → Type 0 };
 
-    /// Reads octets into the front of `piece`, from where the last read ended.
-    fn read(&self, socket: &Self::Socket, cursor: &mut Self::Cursor, piece: &mut [u8]) -> Transfer
-        ensures bound { IsBoundedTransfer result (length piece.new) }
-        ensures octets { AfterReadFrom (octets_left socket.now cursor.old) (octets_left socket.now cursor.new) result
-            piece.new }
-        ensures moved { AfterTransfer facts socket.now result };
+    /// It may be waited until this time for octets of a socket, of which these are left to come.
+    ghost MayListen: { Self.Socket → Option (List ℕ) → Duration → Type 0 };
+
+    /// Waits for reports until this time, and at most for `most`, and notes them in `ready` by token. Returns whether a
+    /// flag is set that was not.
+    fn wait(&self, until: Duration, most: Duration, ready: &mut [Readiness]) -> bool
+        requires { IsAllowed MayWait until most };
+
+    /// Does what `wait` does, to read octets of a socket from where the last read ended.
+    fn listen(
+        &self,
+        socket: &Self::Socket,
+        cursor: &Self::Cursor,
+        until: Duration,
+        most: Duration,
+        ready: &mut [Readiness],
+    ) -> bool
+        requires { IsAllowed (MayListen socket.now (octets_left socket.now cursor.now)) until most };
+
+    /// Reads octets into the front of `piece`, from where the last read ended. It does not wait.
+    fn read(&self, socket: &Self::Socket, cursor: &mut Self::Cursor, piece: &mut [u8]) -> Received
+        ensures bound { IsBoundedTransfer result.moved (length piece.new) }
+        ensures octets { AfterReadFrom (octets_left socket.now cursor.old) (octets_left socket.now cursor.new)
+            result.moved piece.new }
+        ensures received { AfterReceive facts socket.now (octets_left socket.now cursor.new) result };
 
     /// Writes a front of `piece`.
     fn write(&self, socket: &Self::Socket, piece: &[u8]) -> Transfer
         ensures bound { IsBoundedTransfer result (length piece.now) }
         ensures broken { IsBrokenIf facts.IsBroken socket.now result };
 
-    /// Takes note that a socket is given up. It was looked at 18,446,744,073,709,551,615 times, or 1,000,000,000 times
-    /// if hosts are asked at once, and is not connected yet, or has no octets yet.
-    fn give_up(&self, socket: &Self::Socket)
-        ensures { facts.IsGivenUp socket.now };
+    /// Takes note that a socket is given up after so many looks. It is not connected yet, or no octets have come yet,
+    /// and no limit was reached.
+    fn give_up(&self, socket: &Self::Socket, looks: u64)
+        ensures { facts.IsGivenUp socket.now looks };
 }

@@ -2,7 +2,7 @@
 ghost use Rattle.std.specs.Prelude.{◌≤◌, length, None, IfOk};
 ghost use Rattle.zoom_tcp.specs.HostLinks.{IsBoundedTransfer};
 
-use crate::sockets::{ConnectProgress, Readiness, Sockets, Transfer};
+use crate::sockets::{ConnectProgress, Readiness, Received, Sockets, Transfer};
 use libc::net as c;
 use mio::event::Event;
 use mio::net::TcpStream;
@@ -39,6 +39,17 @@ impl<'a, N: Net + Clock> TcpSockets<'a, N> {
             poll: RefCell::new(Poll::new(net).ok()),
             events: RefCell::new(Events::with_capacity(alloc, MOST_EVENTS)?),
         })
+    }
+
+    /// How long it is until this time. Nothing is left if the clock fails.
+    fn left(&self, until: Duration) -> Duration {
+        if until.is_zero() {
+            return Duration::ZERO;
+        }
+        match self.now() {
+            Some(now) => until.saturating_sub(now),
+            None => Duration::ZERO,
+        }
     }
 }
 
@@ -125,13 +136,19 @@ impl<'a, N: Net + Clock> Sockets for TcpSockets<'a, N> {
       IsOpening = λ address socket. Unit {0};
       IsConnected = λ socket. Unit {0};
       IsRefused = λ socket. Unit {0};
+      IsPending = λ socket. Unit {0};
       IsBroken = λ socket. Unit {0};
-      IsIdle = λ socket. Unit {0};
-      IsGivenUp = λ socket. Unit {0};
+      IsHeardAt = λ socket time left. Unit {0};
+      IsIdleAt = λ socket time left. Unit {0};
+      IsGivenUp = λ socket looks. Unit {0};
       octets = λ socket. None;
     } };
 
     ghost octets_left = { λ socket cursor. None };
+
+    ghost MayWait = { λ until. Unit {0} };
+
+    ghost MayListen = { λ socket left until. Unit {0} };
 
     fn now(&self) -> Option<Duration> {
         match &self.origin {
@@ -169,7 +186,8 @@ impl<'a, N: Net + Clock> Sockets for TcpSockets<'a, N> {
 
     fn first(_: &TcpStream) {}
 
-    fn wait(&self, most: Duration, ready: &mut [Readiness]) -> bool {
+    fn wait(&self, until: Duration, most: Duration, ready: &mut [Readiness]) -> bool {
+        let left = self.left(until).min(most);
         let (Ok(mut poll), Ok(mut events)) = (
             self.poll.try_borrow_mut(),
             self.events.try_borrow_mut(),
@@ -177,15 +195,30 @@ impl<'a, N: Net + Clock> Sockets for TcpSockets<'a, N> {
             return false;
         };
         match &mut *poll {
-            Some(poll) => poll.poll(&mut events, Some(most)).is_ok() && note_all(&events, ready),
+            Some(poll) => poll.poll(&mut events, Some(left)).is_ok() && note_all(&events, ready),
             None => false,
         }
     }
 
-    fn read(&self, socket: &TcpStream, _: &mut (), piece: &mut [u8]) -> Transfer {
+    fn listen(
+        &self,
+        _: &TcpStream,
+        _: &(),
+        until: Duration,
+        most: Duration,
+        ready: &mut [Readiness],
+    ) -> bool {
+        self.wait(until, most, ready)
+    }
+
+    fn read(&self, socket: &TcpStream, _: &mut (), piece: &mut [u8]) -> Received {
         acknowledge(socket.as_raw_fd());
         let mut stream = socket;
-        transfer(stream.read(piece), piece.len())
+        let moved = transfer(stream.read(piece), piece.len());
+        Received {
+            moved,
+            at: self.now(),
+        }
     }
 
     fn write(&self, socket: &TcpStream, piece: &[u8]) -> Transfer {
@@ -193,5 +226,5 @@ impl<'a, N: Net + Clock> Sockets for TcpSockets<'a, N> {
         transfer(stream.write(piece), piece.len())
     }
 
-    fn give_up(&self, _: &TcpStream) {}
+    fn give_up(&self, _: &TcpStream, _: u64) {}
 }

@@ -1,8 +1,10 @@
-//! The limits of asking hosts, and when it began, as contracts name them.
-ghost use Rattle.std.specs.Prelude.{◌≡◌, true, false, IfSome};
-ghost use Rattle.zoom_tcp.specs.Silence.{IsWithin, IsOver, IsTotalOver};
+//! The limits of asking hosts, and when it began, as contracts name them, and until when it may be waited.
+ghost use Rattle.std.specs.Prelude.{◌≡◌, None, true, false, IfSome};
+ghost use Rattle.std.specs.Option.{ForNone};
+ghost use Rattle.zoom_tcp.specs.Silence.{IsWithin, IsOver, IsNoLater, IsTotalOver, IsWaitStart, AllowsWaits, AllowsListening};
 
-use crate::limits::{Limits, is_over};
+use crate::limits::{Limits, is_over, sooner_of};
+use crate::sockets::Sockets;
 use std::marker::{Brand, PhantomData};
 use std::time::Duration;
 
@@ -32,32 +34,76 @@ impl Limited for Brand {
     ghost at_once = { false };
 }
 
+/// A time until which it may be waited for hosts to connect.
+#[derive(Drop)]
+pub(crate) struct Deadline<S: Sockets> {
+    pub(crate) time: Duration,
+    of: PhantomData<S>,
+    ghost allowed: { ∥ S.MayWait time ∥₁ },
+}
+
+impl<S: Sockets> Deadline<S> {
+    /// The same once more.
+    pub(crate) fn again(&self) -> Deadline<S> {
+        Deadline {
+            time: self.time,
+            of: PhantomData,
+        }
+    }
+
+    /// The sooner of two, if there are any.
+    pub(crate) fn sooner(
+        one: Option<Deadline<S>>,
+        other: Option<Deadline<S>>,
+    ) -> Option<Deadline<S>>
+        ensures { ForNone result ((one ≡ None) × (other ≡ None)) }
+    {
+        match (one, other) {
+            (Some(one), Some(other)) => {
+                if one.time <= other.time {
+                    Some(one)
+                } else {
+                    Some(other)
+                }
+            }
+            (Some(one), None) => Some(one),
+            (None, other) => other,
+        }
+    }
+}
+
 /// These limits, and when asking began.
 #[derive(Drop)]
-pub(crate) struct Times<K: Limited> {
+pub(crate) struct Times<S: Sockets, K: Limited> {
     pub(crate) limits: Limits,
-    /// When the look-up of names began.
+    /// When everything began.
     pub(crate) begun: Duration,
+    over: PhantomData<S>,
     of: PhantomData<K>,
     ghost same_limits: { limits ≡ K.limits },
     ghost same_begun: { begun ≡ K.begun },
+    ghost waits: { AllowsWaits S.facts S.MayWait K.limits K.begun },
+    ghost listens: { AllowsListening S.facts S.MayListen K.limits K.begun },
 }
 
-impl<K: Limited> Times<K> {
-    /// The limits, and when asking began.
-    pub(crate) fn new(limits: Limits, begun: Duration) -> Times<K>
+impl<S: Sockets, K: Limited> Times<S, K> {
+    /// The limits, and when everything began. Each wait within them is allowed.
+    pub(crate) fn new(limits: Limits, begun: Duration) -> Times<S, K>
         requires limits { limits ≡ K.limits }
         requires begun { begun ≡ K.begun }
+        requires waits { AllowsWaits S.facts S.MayWait K.limits K.begun }
+        requires listens { AllowsListening S.facts S.MayListen K.limits K.begun }
     {
         Times {
             limits,
             begun,
+            over: PhantomData,
             of: PhantomData,
         }
     }
 
     /// The same once more.
-    pub(crate) fn again(&self) -> Times<K> {
+    pub(crate) fn again(&self) -> Times<S, K> {
         Times::new(self.limits, self.begun)
     }
 
@@ -75,5 +121,23 @@ impl<K: Limited> Times<K> {
         ensures within { result ≡ false → IsWithin since now K.limits.patience }
     {
         is_over(self.limits.patience, since, now)
+    }
+
+    /// The end of the time for what began at `since`: the patience, and no more than is left for everything.
+    pub(crate) fn end_of(&self, since: Duration) -> Duration
+        ensures patient { IsNoLater since result K.limits.patience }
+        ensures total { IfSome K.limits.total (IsNoLater K.begun result) }
+    {
+        self.limits.end_of(self.begun, since)
+    }
+
+    /// This time, and no later than the end of the time for connecting, which began at `since`.
+    pub(crate) fn deadline_by(&self, since: Duration, by: Duration) -> Deadline<S>
+        requires { ∥ IsWaitStart S.facts since ∥₁ }
+    {
+        Deadline {
+            time: sooner_of(by, self.end_of(since)),
+            of: PhantomData,
+        }
     }
 }

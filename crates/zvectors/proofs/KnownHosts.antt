@@ -122,7 +122,7 @@ talk_for q s at_once c h more f (Some came) (ended_itself t first over) = ended_
 talk_for q s at_once c h more f (Some came) (was_stopped reason t first for cut faulty) =
     was_stopped reason t first for cut (λ is. f (faulty is))
 
-asked_for : (host other : HostClaims) (chosen : Bool) (q : _) (s : _) (at_once : Bool) (c : ℕ) (h : History)
+pub asked_for : (host other : HostClaims) (chosen : Bool) (q : _) (s : _) (at_once : Bool) (c : ℕ) (h : History)
     → ((came : KnownOctets) → host.IsOwn came → other.IsOwn came) → (host.IsUnreached → other.IsUnreached)
     → (host.IsFaulty → other.IsFaulty) → IsConnectionAskedIf host chosen q s at_once c h
     → IsConnectionAskedIf other chosen q s at_once c h
@@ -305,9 +305,9 @@ module _ {Place : Type 0} (places : List Place) (name_of : Place → List ℕ) (
     no_fault : ReadFault (facts_of places name_of sends) limits begun → ⊥
     no_fault (fault_no_clock none) = none
     no_fault (broken_socket socket none) = none
-    no_fault (silent_host since now first last over) = not_over limits.patience since now allowed.0 last over
+    no_fault (silent_host socket since now left from idle over) = idle
     no_fault (fault_total_over now last over) = not_total now last over
-    no_fault (fault_given_up socket gone none) = none
+    no_fault (fault_given_up socket now left idle gone) = idle
 
     -- The address of a socket does not refuse it.
     not_refused : (addresses : List ℕ) (place socket : ℕ)
@@ -343,6 +343,9 @@ module _ {Place : Type 0} (places : List Place) (name_of : Place → List ℕ) (
         let refuses = failed_none addresses at.0 number among (fails at.0 (within addresses at.0 number among)) in
         sym (ap (option_and_then sends) there) ∙ refuses
 
+    not_once : false ≡ true → ⊥
+    not_once is = absurd cc
+
     unreached_for : (name : Option (List ℕ)) → IsOwnUnreached (facts_of places name_of sends) limits begun false name
         → IsRefusedTo places name_of sends name
     unreached_for None why = why
@@ -353,8 +356,9 @@ module _ {Place : Type 0} (places : List Place) (name_of : Place → List ℕ) (
         absurd (not_over limits.patience started now allowed.0 last over)
     unreached_for (Some name) (total_over now last over) = absurd (not_total now last over)
     unreached_for (Some name) (given_up addresses found socket to left) =
-        ⊎_elim (λ once. absurd cc)
-        (λ r. ⊎_elim (λ none. absurd none) (λ denied. absurd (not_refused addresses to.place socket to.tried denied)) r) left.1
+        ⊎_elim (λ once. absurd (not_once once.0))
+        (λ r. ⊎_elim (λ none. absurd none) (λ denied. absurd (not_refused addresses to.place socket to.tried denied)) r.1)
+        left
 
     -- The connections are asked over these octets, and read fronts of them.
     pub asked_known : (names : ℕ → Option (List ℕ)) (q : _) (s : _) (meta : _)

@@ -54,9 +54,11 @@ module _ {Place : Type 0} (places : List Place) (name_of : Place → List ℕ) (
     IsOpening = IsSocketOf;
     IsConnected = IsTaken;
     IsRefused = λ socket. is_some (sent_from socket) ≡ false;
+    IsPending = λ socket. ⊥;
     IsBroken = λ socket. ⊥;
-    IsIdle = λ socket. ⊥;
-    IsGivenUp = λ socket. Unit {0};
+    IsHeardAt = λ socket time left. as_nanos time ≡ 0;
+    IsIdleAt = λ socket time left. ⊥;
+    IsGivenUp = λ socket looks. Unit {0};
     octets = sent_from;
   }
 

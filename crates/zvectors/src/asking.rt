@@ -214,14 +214,14 @@ fn ask_three(
         Some(Bytes::from_static(b"c")),
         None,
     ];
-    let watch = &mut Unwatched;
+    let (begun, watch) = (Duration::ZERO, &mut Unwatched);
     if at_once {
         read(ask_at_once_over(
-            alloc, network, questions, settings, &addresses, limits, watch,
+            alloc, network, questions, settings, &addresses, limits, begun, watch,
         ))
     } else {
         read(ask_over(
-            alloc, network, questions, settings, &addresses, limits, watch,
+            alloc, network, questions, settings, &addresses, limits, begun, watch,
         ))
     }
 }

@@ -1,12 +1,12 @@
 // Hosts in memory of which all octets are known. What is read of each is a front of its own octets.
-ghost use Rattle.std.specs.Prelude.{◌≡◌, ◌<◌, ◌≤◌, ◌^◌, ◌++◌, ℕ, false, [], length, take, drop, IfOk, bytes_eq, option_copied};
+ghost use Rattle.std.specs.Prelude.{◌≡◌, ◌<◌, ◌≤◌, ◌^◌, ◌+◌, ◌++◌, ℕ, false, [], length, take, drop, IfOk, bytes_eq, option_copied};
 ghost use Rattle.zoom.specs.Asking.{is_present, IsAskedOver};
 ghost use Rattle.zoom.specs.Askable.{AreAskable, AreFit};
-ghost use Rattle.zoom.specs.HostLinks.{IsBoundedTransfer, IsBrokenIf, AfterProgress, AfterReadFrom, AfterTransfer};
+ghost use Rattle.zoom.specs.HostLinks.{IsBoundedTransfer, IsBrokenIf, AfterProgress, AfterReadFrom, AfterReceive};
 ghost use Rattle.zoom.specs.TalksAmong.{halves_at};
 ghost use Rattle.zvectors.specs.Known.{sent_from, sent_after, facts_of, known_host, HasTime, AreOwnRead};
 
-mod rows;
+pub(crate) mod rows;
 
 use bytes::Bytes;
 use std::alloc::{AllocError, Global};
@@ -14,8 +14,8 @@ use std::cell::RefCell;
 use std::marker::{Brand, PhantomData};
 use std::time::Duration;
 use zoom::{
-    ConnectProgress, Limits, Meta, MetaSettings, Network, Question, Readiness, Sockets, Transfer,
-    Unwatched, ask_over,
+    ConnectProgress, Limits, Meta, MetaSettings, Network, Question, Readiness, Received, Sockets,
+    Transfer, Unwatched, ask_over,
 };
 
 // The most octets of a read.
@@ -106,17 +106,20 @@ fn has_name(place: &Place, name: &str) -> bool
     place.name.as_slice() == name.as_bytes()
 }
 
-/// Gives the octets that come next. Returns how many.
-fn give(octets: &[u8], cursor: &mut usize, piece: &mut [u8]) -> usize
+/// Gives at most so many octets of those that come next. Returns how many.
+pub(crate) fn give(octets: &[u8], cursor: &mut usize, piece: &mut [u8], most: usize) -> usize
+    requires { 0 < most }
     ensures bound { result ≤ length piece.new }
     ensures moved { drop cursor.old octets.now ≡ take result piece.new ++ drop cursor.new octets.now }
     ensures end { result ≡ 0 → 0 < length piece.new → drop cursor.new octets.now ≡ [] }
+    ensures cursor { cursor.new ≡ cursor.old + result }
+    ensures most { result ≤ most }
 {
     if *cursor >= octets.len() {
         return 0;
     }
     let (_, rest) = octets.split_at(*cursor);
-    let count = rest.len().min(piece.len()).min(STEP);
+    let count = rest.len().min(piece.len()).min(most);
     let (given, _) = rest.split_at(count);
     piece[..count].copy_from_slice(given);
     *cursor += count;
@@ -133,6 +136,10 @@ impl<K: Places> Sockets for KnownHosts<K> {
     ghost facts = { facts_of K.places (λ p. p.name) (λ p. p.sends) };
 
     ghost octets_left = { sent_after K.places (λ p. p.name) (λ p. p.sends) };
+
+    ghost MayWait = { λ until. Unit {0} };
+
+    ghost MayListen = { λ socket left until. Unit {0} };
 
     fn now(&self) -> Option<Duration> {
         Some(Duration::ZERO)
@@ -166,7 +173,7 @@ impl<K: Places> Sockets for KnownHosts<K> {
         0
     }
 
-    fn wait(&self, _: Duration, ready: &mut [Readiness]) -> bool {
+    fn wait(&self, _: Duration, _: Duration, ready: &mut [Readiness]) -> bool {
         let all = Readiness {
             readable: true,
             writable: true,
@@ -180,24 +187,38 @@ impl<K: Places> Sockets for KnownHosts<K> {
         is_new
     }
 
-    fn read(&self, socket: &usize, cursor: &mut usize, piece: &mut [u8]) -> Transfer {
-        let Some(octets) = self.octets_from(*socket) else {
-            return Transfer::Octets(0);
+    fn listen(
+        &self,
+        _: &usize,
+        _: &usize,
+        until: Duration,
+        most: Duration,
+        ready: &mut [Readiness],
+    ) -> bool {
+        self.wait(until, most, ready)
+    }
+
+    fn read(&self, socket: &usize, cursor: &mut usize, piece: &mut [u8]) -> Received {
+        let count = match self.octets_from(*socket) {
+            Some(octets) => give(octets, cursor, piece, STEP),
+            None => 0,
         };
-        let count = give(octets, cursor, piece);
         if let Ok(mut all) = self.left.try_borrow_mut()
             && let Some(left) = all.get_mut(*socket)
         {
             *left = left.saturating_sub(count);
         }
-        Transfer::Octets(count)
+        Received {
+            moved: Transfer::Octets(count),
+            at: self.now(),
+        }
     }
 
     fn write(&self, _: &usize, piece: &[u8]) -> Transfer {
         Transfer::Octets(piece.len())
     }
 
-    fn give_up(&self, _: &usize) {}
+    fn give_up(&self, _: &usize, _: u64) {}
 }
 
 /// Does what `ask_known` does, over the addresses that there are.
@@ -222,9 +243,9 @@ fn ask_places<K: Places>(
         asked.history) }
 {
     let network = Network::new(alloc, KnownHosts::<K>::new(alloc, places)?);
-    let watch = &mut Unwatched;
+    let (begun, watch) = (Duration::ZERO, &mut Unwatched);
     let meta = ask_over(
-        alloc, &network, questions, settings, addresses, limits, watch,
+        alloc, &network, questions, settings, addresses, limits, begun, watch,
     )?;
     Ok((meta, network.into_sockets().left.into_inner()))
 }

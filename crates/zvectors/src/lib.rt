@@ -31,6 +31,8 @@ mod sessions;
 #[cfg(test)]
 mod talks;
 #[cfg(test)]
+mod timed;
+#[cfg(test)]
 mod together;
 #[cfg(test)]
 mod windows;

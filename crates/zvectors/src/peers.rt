@@ -5,7 +5,7 @@ ghost use Rattle.zoom.specs.HostLinks.{IsBoundedTransfer, AfterReadFrom};
 use std::alloc::{AllocError, Global};
 use std::cell::RefCell;
 use std::time::Duration;
-use zoom::{ConnectProgress, Readiness, Sockets, Transfer};
+use zoom::{ConnectProgress, Readiness, Received, Sockets, Transfer};
 
 /// An address of a host. Its times are in milliseconds.
 #[derive(Clone, Copy)]
@@ -133,10 +133,11 @@ impl PeersState {
         Some(address)
     }
 
-    fn wait(&mut self, most: Duration, ready: &mut [Readiness]) -> bool {
+    fn wait(&mut self, until: Duration, most: Duration, ready: &mut [Readiness]) -> bool {
         self.waits = self.waits.saturating_add(1);
+        let until = u64::try_from(until.as_millis()).unwrap_or(u64::MAX);
         let most = u64::try_from(most.as_millis()).unwrap_or(u64::MAX);
-        let mut next_change = u64::MAX;
+        let mut next_change = until;
         for peer in &self.peers {
             next_change = next_change.min(peer.next_change(self.reported));
         }
@@ -228,13 +229,19 @@ impl Sockets for Peers {
       IsOpening = λ address socket. Unit {0};
       IsConnected = λ socket. Unit {0};
       IsRefused = λ socket. Unit {0};
+      IsPending = λ socket. Unit {0};
       IsBroken = λ socket. Unit {0};
-      IsIdle = λ socket. Unit {0};
-      IsGivenUp = λ socket. Unit {0};
+      IsHeardAt = λ socket time left. Unit {0};
+      IsIdleAt = λ socket time left. Unit {0};
+      IsGivenUp = λ socket looks. Unit {0};
       octets = λ socket. None;
     } };
 
     ghost octets_left = { λ socket cursor. None };
+
+    ghost MayWait = { λ until. Unit {0} };
+
+    ghost MayListen = { λ socket left until. Unit {0} };
 
     fn now(&self) -> Option<Duration> {
         match self.state.try_borrow() {
@@ -277,17 +284,32 @@ impl Sockets for Peers {
         0
     }
 
-    fn wait(&self, most: Duration, ready: &mut [Readiness]) -> bool {
+    fn wait(&self, until: Duration, most: Duration, ready: &mut [Readiness]) -> bool {
         match self.state.try_borrow_mut() {
-            Ok(mut state) => state.wait(most, ready),
+            Ok(mut state) => state.wait(until, most, ready),
             Err(_) => false,
         }
     }
 
-    fn read(&self, socket: &usize, cursor: &mut usize, piece: &mut [u8]) -> Transfer {
-        match self.state.try_borrow_mut() {
+    fn listen(
+        &self,
+        _: &usize,
+        _: &usize,
+        until: Duration,
+        most: Duration,
+        ready: &mut [Readiness],
+    ) -> bool {
+        self.wait(until, most, ready)
+    }
+
+    fn read(&self, socket: &usize, cursor: &mut usize, piece: &mut [u8]) -> Received {
+        let moved = match self.state.try_borrow_mut() {
             Ok(mut state) => state.read(*socket, cursor, piece),
             Err(_) => Transfer::Failure,
+        };
+        Received {
+            moved,
+            at: self.now(),
         }
     }
 
@@ -298,5 +320,5 @@ impl Sockets for Peers {
         }
     }
 
-    fn give_up(&self, _: &usize) {}
+    fn give_up(&self, _: &usize, _: u64) {}
 }

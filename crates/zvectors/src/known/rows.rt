@@ -40,8 +40,8 @@ a refuses, o record, c nothing | Failed(Connect) Failed(Connect) Closed Fresh [0
 a refuses, a record, b refuses, b refuses, c nothing, c record | Closed Failed(Connect) Closed Fresh [0, 0, 0, 0, 0, 98]
 ";
 
-// What an address sends, unless it refuses.
-fn sent(word: &str) -> Option<Bytes> {
+/// What an address sends, unless it refuses.
+pub(crate) fn sent(word: &str) -> Option<Bytes> {
     match word {
         "record" => Some(Bytes::from_static(RECORD)),
         "nothing" => Some(Bytes::from_static(NOTHING)),
@@ -77,8 +77,8 @@ fn push_records(alloc: Global, questions: &mut Vec<Question>) -> Result<(), Unre
     push_question(questions, question(alloc, false))
 }
 
-// Four questions for the records of a word.
-fn records_asked(alloc: Global) -> Result<Vec<Question>, Unread>
+/// Four questions for the records of a word.
+pub(crate) fn records_asked(alloc: Global) -> Result<Vec<Question>, Unread>
     ensures askable { IfOk result (λ questions. AreAskable questions.items) }
     ensures four { IfOk result (λ questions. length questions.items ≡ 4) }
 {

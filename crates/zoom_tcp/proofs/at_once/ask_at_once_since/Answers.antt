@@ -17,7 +17,7 @@ returns g c =
     record {
       asked = asked_at_once c.in_ok-attempts.attempts.items c.deref_mut.result.now c.talk_with_all-talked.new.talks _ refl
           (λ a. refl)
-          (λ name a. IsAttempt g.S.Sockets.facts g.K.Limited.limits g.K.Limited.begun g.K.Limited.at_once name a.addresses.items a.place a.started a.stage)
+          (λ name a. IsAttempt g.S.Sockets.facts g.K.Limited.limits g.K.Limited.begun g.K.Limited.at_once name a.tries)
           (claims_of g.S.Sockets.facts g.K.Limited.limits g.K.Limited.begun g.K.Limited.at_once)
           c.args.questions.items c.args.settings (halves_at c.args.addresses.now) c.in_ok-meta.meta
           c.talk_with_all-talked.new.meta

@@ -1,6 +1,6 @@
 use Rattle.std.proofs.Common.{sym, subst, None, Some}
 use Rattle.zoom_tcp.specs.AskingSteps.{AfterOpen, link_over, link_when}
-use Rattle.zoom_tcp.specs.HostTalks.{IsReachedOver}
+use Rattle.zoom_tcp.specs.HostTalks.{IsReachedOver, IsStillFor}
 use Rattle.zoom_tcp.proofs.Openings.{opens_unreached, opens_for}
 use Rattle.zoom_tcp.proofs.host_talks.connect.Goals as goal
 
@@ -41,3 +41,7 @@ returns-in-Never-clause-begun g c name is = (
       (c.in_ok-look.ensures.own name is)) c.stop.ensures.after,
   tt,
 )
+
+pub returns-in-NotYet-clause-stays : goal.returns-in-NotYet-clause-stays
+returns-in-NotYet-clause-stays g c name is =
+    subst (IsStillFor (g.A.Reach.IsFor name c.look.new.self)) c.in-NotYet.is (c.in_ok-look.ensures.stays name is)

@@ -1,4 +1,4 @@
-use Rattle.std.proofs.Common.{◌+◌, sym, subst}
+use Rattle.std.proofs.Common.{◌+◌, sym, subst, IfNone}
 use Rattle.zoom_io.specs.TalksAmong.{view_of}
 use Rattle.zoom_tcp.specs.HostTalks.{Connecting, Talking, host_view, view_if, HostStep, IsBegun}
 use Rattle.zoom_tcp.proofs.HostTalks.{wait_step, begun_step, part_step, goes_on, ok_one}
@@ -11,7 +11,10 @@ returns-in-None-clause-steps g c n few =
     (host_view g.R.NonBlocking.state g.R.NonBlocking.polls g.W.Sink.state z) (Connecting c.connect.new.attempt))
     (sym c.in-Connecting.is)
     (wait_step g.A.Reach.IsFor g.A.Reach.claims c.args.c n (n + 1) c.args.meta.now c.connect.new.meta
-    c.in-Connecting.attempt c.connect.new.attempt c.connect.ensures.stays
+    c.in-Connecting.attempt c.connect.new.attempt
+    (λ name is.
+    subst (λ z. IfNone z (g.A.Reach.IsFor name c.connect.new.attempt)) c.in-None.is
+    (c.in_ok-next-in-Connecting.ensures.stays name is))
     (λ name is.
     subst
     (λ z. IsBegun (g.A.Reach.claims name) c.args.c

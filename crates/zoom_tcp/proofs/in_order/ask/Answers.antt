@@ -5,6 +5,6 @@ use Rattle.zoom_tcp.proofs.in_order.ask.Goals as goal
 
 pub returns : goal.returns
 returns g c = record {
-  asked = ok_over_any c.ask_over.result _ _ c.args.questions.items c.args.settings false
+  asked = ok_over_any c.ask_over.result _ c.args.questions.items c.args.settings false
       (is_present c.args.addresses.now) c.ask_over.ensures.asked;
 }

@@ -1,11 +1,11 @@
-use Rattle.std.proofs.Common.{◌∙◌, ◌<◌, ap, get_or, length, sym, subst, refl, rules, is_some}
+use Rattle.std.proofs.Common.{◌∙◌, ◌<◌, arith, ap, get_or, length, sym, subst, refl, rules, is_some}
 use Rattle.std.proofs.lemmas.Option.{slice_get-get_or}
 use Rattle.zoom_io.specs.TalksAmong.{flat, halves_at}
 use Rattle.zoom_tcp.specs.Asking.{is_present, octets_of}
 use Rattle.zoom_tcp.specs.AskingSteps.{AfterOpenAll, AfterOpenIf}
-use Rattle.zoom_tcp.specs.Connecting.{IsAttempt, IsFitIf, claims_of}
+use Rattle.zoom_tcp.specs.Connecting.{IsAttempt, IsWaited, IsFitIf, IsEntryIf, claims_of}
 use Rattle.zoom_tcp.proofs.Alike.{entry_place}
-use Rattle.zoom_tcp.proofs.Attempts.{attempts_set}
+use Rattle.zoom_tcp.proofs.Attempts.{entry_other}
 use Rattle.zoom_tcp.proofs.Entries.{present_set}
 use Rattle.zoom_tcp.proofs.Openings.{opens_none, opens_more}
 use Rattle.zoom_tcp.proofs.opening.begin_all.Goals as goal
@@ -18,9 +18,17 @@ loop-c-init g c = (
   refl,
   search rules,
   c.requires.attempts,
-  c.requires.own,
+  λ k le. c.requires.own k,
   c.requires.named,
+  λ k le. c.requires.waited k,
 )
+
+pub link_if-requires : goal.link_if-requires
+link_if-requires g c =
+    let lt : c.loop-c.c < length c.loop-c.attempts = search rules in
+    subst (λ z. IsEntryIf z (λ a. IsWaited c.args.looks a.tries.stage))
+    (ap flat (slice_get-get_or c.loop-c.attempts c.loop-c.c c.index-attempts-c.result lt))
+    (c.loop-c.invariant.6 c.loop-c.c (omega arith))
 
 pub begin_if-requires-clause-own : goal.begin_if-requires-clause-own
 begin_if-requires-clause-own g c =
@@ -30,9 +38,9 @@ begin_if-requires-clause-own g c =
     let there = ap flat (slice_get-get_or c.loop-c.attempts c.loop-c.c c.index-attempts-c.result lt) in
     c.in_ok-link.ensures.own c.index-addresses-c.result
     (ap is_some (sym there) ∙ c.loop-c.invariant.5 c.loop-c.c ∙ ap is_some place)
-    (subst (λ z. IsFitIf z was (λ name a. IsAttempt g.S.Sockets.facts g.K.Limited.limits g.K.Limited.begun g.K.Limited.at_once name a.addresses.items a.place a.started a.stage)) place
-    (subst (λ z. IsFitIf (halves_at c.args.addresses.now c.loop-c.c) z (λ name a. IsAttempt g.S.Sockets.facts g.K.Limited.limits g.K.Limited.begun g.K.Limited.at_once name a.addresses.items a.place a.started a.stage)) there
-    (c.loop-c.invariant.4 c.loop-c.c)))
+    (subst (λ z. IsFitIf z was (λ name a. IsAttempt g.S.Sockets.facts g.K.Limited.limits g.K.Limited.begun g.K.Limited.at_once name a.tries)) place
+    (subst (λ z. IsFitIf (halves_at c.args.addresses.now c.loop-c.c) z (λ name a. IsAttempt g.S.Sockets.facts g.K.Limited.limits g.K.Limited.begun g.K.Limited.at_once name a.tries)) there
+    (c.loop-c.invariant.4 c.loop-c.c (omega arith))))
 
 pub loop-c-preserved : goal.loop-c-preserved
 loop-c-preserved g c =
@@ -54,9 +62,15 @@ loop-c-preserved g c =
       c.begin_if.ensures.size ∙ c.loop-c.invariant.1,
       search rules,
       search rules,
-      attempts_set c.loop-c.attempts c.loop-c.c was c.link_if.new.attempt
-          (λ name a. IsAttempt g.S.Sockets.facts g.K.Limited.limits g.K.Limited.begun g.K.Limited.at_once name a.addresses.items a.place a.started a.stage) is c.link_if.ensures.stays (halves_at c.args.addresses.now)
-          c.loop-c.invariant.4,
+      λ k le.
+          let other = entry_other c.loop-c.attempts c.loop-c.c c.link_if.new.attempt k (omega (arith, le)) in
+          subst (λ z. IsFitIf (halves_at c.args.addresses.now k) z
+          (λ name a. IsAttempt g.S.Sockets.facts g.K.Limited.limits g.K.Limited.begun g.K.Limited.at_once name a.tries)) (sym other)
+          (c.loop-c.invariant.4 k (omega (arith, le))),
       λ k. present_set c.loop-c.attempts c.loop-c.c was c.link_if.new.attempt is c.link_if.ensures.named k
           ∙ c.loop-c.invariant.5 k,
+      λ k le.
+          let other = entry_other c.loop-c.attempts c.loop-c.c c.link_if.new.attempt k (omega (arith, le)) in
+          subst (λ z. IsEntryIf z (λ a. IsWaited c.args.looks a.tries.stage)) (sym other)
+          (c.loop-c.invariant.6 k (omega (arith, le))),
     )

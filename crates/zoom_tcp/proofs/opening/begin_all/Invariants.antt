@@ -1,8 +1,8 @@
-use Rattle.std.proofs.Common.{◌≡◌, ℕ, length}
+use Rattle.std.proofs.Common.{◌≡◌, ◌≤◌, ℕ, length}
 use Rattle.zoom_io.specs.TalksAmong.{halves_at}
 use Rattle.zoom_tcp.specs.Asking.{is_present}
 use Rattle.zoom_tcp.specs.AskingSteps.{AfterOpenAll}
-use Rattle.zoom_tcp.specs.Connecting.{IsAttempt, AreAttempts, claims_of}
+use Rattle.zoom_tcp.specs.Connecting.{IsAttempt, IsWaited, IsFitIf, IsEntryIf, claims_of}
 use Rattle.zoom_tcp.proofs.opening.begin_all.Given as goal
 
 abbrev pub invariant-loop-c : goal.invariant-loop-c
@@ -13,6 +13,7 @@ invariant-loop-c g l =
     × (length l.meta.pool.connections ≡ length l.initial.meta.pool.connections)
     × (length l.links.items ≡ l.c)
     × (length l.attempts ≡ length l.addresses)
-    × AreAttempts (halves_at l.addresses) l.attempts
-    (λ name a. IsAttempt g.S.Sockets.facts g.K.Limited.limits g.K.Limited.begun g.K.Limited.at_once name a.addresses.items a.place a.started a.stage)
+    × ((k : ℕ) → l.c ≤ k → IsFitIf (halves_at l.addresses k) (halves_at l.attempts k)
+    (λ name a. IsAttempt g.S.Sockets.facts g.K.Limited.limits g.K.Limited.begun g.K.Limited.at_once name a.tries))
     × ((k : ℕ) → is_present l.attempts k ≡ is_present l.addresses k)
+    × ((k : ℕ) → l.c ≤ k → IsEntryIf (halves_at l.attempts k) (λ a. IsWaited l.looks a.tries.stage))

@@ -6,6 +6,6 @@ pub returns : goal.returns
 returns g c =
     let asked = c.in_ok-meta.ensures.asked in
     record {
-      read = asked_known g.K.Places.places (λ p. p.name) (λ p. p.sends) c.args.limits asked.0 c.requires.time
-          (halves_at c.args.addresses.now) c.args.questions.items c.args.settings c.in_ok-meta.meta asked.2;
+      read = asked_known g.K.Places.places (λ p. p.name) (λ p. p.sends) c.args.limits _ c.requires.time
+          (halves_at c.args.addresses.now) c.args.questions.items c.args.settings c.in_ok-meta.meta asked;
     }

@@ -3,6 +3,3 @@ use Rattle.zoom_tcp.proofs.host_link.HostSource.look_with.Goals as goal
 
 pub returns-in-Err-clause-fault : goal.returns-in-Err-clause-fault
 returns-in-Err-clause-fault g c = ∣ broken_socket _ c.in-Err.ensures ∣₁
-
-pub returns-in-Failure-clause-fault : goal.returns-in-Failure-clause-fault
-returns-in-Failure-clause-fault g c = ∣ broken_socket _ c.in-Failure.ensures.broken ∣₁

@@ -1,14 +1,22 @@
-use Rattle.zoom_tcp.specs.Silence.{broken_socket, given_up}
+use Rattle.std.proofs.Common.{subst}
+use Rattle.zoom_tcp.specs.HostLinks.{AfterMove}
+use Rattle.zoom_tcp.specs.Silence.{broken_socket}
+use Rattle.zoom_tcp.proofs.Waits.{left_idle}
 use Rattle.zoom_tcp.proofs.host_link.HostSource.read_last.Goals as goal
 
-pub invariant_of-self-in-NotYet : goal.invariant_of-self-in-NotYet
-invariant_of-self-in-NotYet g c = record {
-  heard = c.args.self.now.heard;
-  fault = λ lt. ∣ given_up _ c.give_up.ensures c.in-NotYet.ensures.moved ∣₁;
-}
+pub invariant_of-self-in-NotYet-clause-fault : goal.invariant_of-self-in-NotYet-clause-fault
+invariant_of-self-in-NotYet-clause-fault g c lt =
+    let socket = c.deref-socket.result.now in
+    let left = g.S.Sockets.octets_left socket c.read-received.new.cursor in
+    left_idle g.S.Sockets.facts g.K.Limited.limits g.K.Limited.begun socket left c.read-received.result.at c.args.looks
+    c.requires
+    (subst (λ z. AfterMove g.S.Sockets.facts socket left z c.read-received.result.at) c.in-NotYet.is
+    c.read-received.ensures.received.moved) c.give_up.ensures
 
-pub invariant_of-self-in-Failure : goal.invariant_of-self-in-Failure
-invariant_of-self-in-Failure g c = record {
-  heard = c.args.self.now.heard;
-  fault = λ lt. ∣ broken_socket _ c.in-Failure.ensures.moved ∣₁;
-}
+pub invariant_of-self-in-Failure-clause-fault : goal.invariant_of-self-in-Failure-clause-fault
+invariant_of-self-in-Failure-clause-fault g c lt =
+    let socket = c.deref-socket.result.now in
+    let left = g.S.Sockets.octets_left socket c.read-received.new.cursor in
+    ∣ broken_socket socket
+    (subst (λ z. AfterMove g.S.Sockets.facts socket left z c.read-received.result.at) c.in-Failure.is
+    c.read-received.ensures.received.moved) ∣₁

@@ -6,17 +6,17 @@ use Rattle.zoom_io.specs.Devices.{AfterRead, AfterPoll, IsUntouched}
 use Rattle.zoom_tcp.proofs.HostLinks.{reads_from}
 use Rattle.zoom_tcp.proofs.host_link.HostSourceSource.read.Goals as goal
 
-pub loop-init : goal.loop-init
-loop-init g c = (refl, Keeps-refl _)
+pub loop-looks-init : goal.loop-looks-init
+loop-looks-init g c = (refl, Keeps-refl _)
 
-pub loop-preserved : goal.loop-preserved
-loop-preserved g c =
-    let same : IsUntouched (record { octets = g.S.Sockets.octets_left c.loop.self.timed.socket.value c.loop.self.cursor; failures = c.loop.self.failures })
+pub loop-looks-preserved : goal.loop-looks-preserved
+loop-looks-preserved g c =
+    let same : IsUntouched (record { octets = g.S.Sockets.octets_left c.loop-looks.self.timed.socket.value c.loop-looks.self.cursor; failures = c.loop-looks.self.failures })
     (record { octets = g.S.Sockets.octets_left c.receive.new.self.timed.socket.value c.receive.new.self.cursor; failures = c.receive.new.self.failures }) =
-    subst (λ z. AfterPoll {E = Failed} (record { octets = g.S.Sockets.octets_left c.loop.self.timed.socket.value c.loop.self.cursor; failures = c.loop.self.failures })
+    subst (λ z. AfterPoll {E = Failed} (record { octets = g.S.Sockets.octets_left c.loop-looks.self.timed.socket.value c.loop-looks.self.cursor; failures = c.loop-looks.self.failures })
     (record { octets = g.S.Sockets.octets_left c.receive.new.self.timed.socket.value c.receive.new.self.cursor; failures = c.receive.new.self.failures })
     (Ok z) c.receive.new.piece) c.in-None.is c.in_ok-count.ensures.reads in
-    (same.failures ∙ c.loop.invariant.0, Keeps-trans _ _ _ c.loop.invariant.1 same.octets)
+    (same.failures ∙ c.loop-looks.invariant.0, Keeps-trans _ _ _ c.loop-looks.invariant.1 same.octets)
 
 pub returns-in_err-count-clause-reads : goal.returns-in_err-count-clause-reads
 returns-in_err-count-clause-reads g c =
@@ -25,17 +25,17 @@ returns-in_err-count-clause-reads g c =
     (λ z. AfterRead {E = Failed} (record { octets = g.S.Sockets.octets_left c.args.self.now.timed.socket.value c.args.self.now.cursor; failures = c.args.self.now.failures })
     (record { octets = g.S.Sockets.octets_left c.receive.new.self.timed.socket.value c.receive.new.self.cursor; failures = c.receive.new.self.failures })
     z c.receive.new.piece) (sym (p.1 ∙ ap Err p.2))
-    (reads_from (Err c.in_err-count.field-0.0) _ _ _ _ _ _ c.loop.invariant.1 c.loop.invariant.0
+    (reads_from (Err c.in_err-count.field-0.0) _ _ _ _ _ _ c.loop-looks.invariant.1 c.loop-looks.invariant.0
     c.in_err-count.ensures.reads)
 
 pub returns-in-Some-clause-reads : goal.returns-in-Some-clause-reads
 returns-in-Some-clause-reads g c =
-    reads_from (Ok c.in-Some.count) _ _ _ _ _ _ c.loop.invariant.1 c.loop.invariant.0
+    reads_from (Ok c.in-Some.count) _ _ _ _ _ _ c.loop-looks.invariant.1 c.loop-looks.invariant.0
     (subst
-    (λ z. AfterPoll {E = Failed} (record { octets = g.S.Sockets.octets_left c.loop.self.timed.socket.value c.loop.self.cursor; failures = c.loop.self.failures })
+    (λ z. AfterPoll {E = Failed} (record { octets = g.S.Sockets.octets_left c.loop-looks.self.timed.socket.value c.loop-looks.self.cursor; failures = c.loop-looks.self.failures })
     (record { octets = g.S.Sockets.octets_left c.receive.new.self.timed.socket.value c.receive.new.self.cursor; failures = c.receive.new.self.failures })
     (Ok z) c.receive.new.piece) c.in-Some.is c.in_ok-count.ensures.reads)
 
 pub returns-clause-reads : goal.returns-clause-reads
 returns-clause-reads g c =
-    reads_from c.read_last.result _ _ _ _ _ _ c.loop.invariant.1 c.loop.invariant.0 c.read_last.ensures.reads
+    reads_from c.read_last.result _ _ _ _ _ _ c.loop-looks.invariant.1 c.loop-looks.invariant.0 c.read_last.ensures.reads
