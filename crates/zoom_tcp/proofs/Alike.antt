@@ -89,14 +89,14 @@ opening_for f g (begun came calls octets own idle all) = begun came calls octets
 opening_for f g (unsent came calls octets own idle all) = unsent came calls octets (f came own) idle all
 
 -- A read fails for one reason where it does for another.
-talk_for : {fault other : Type 0} {q : List Question} {s : MetaSettings} {at_once : Bool} {came : KnownOctets} {c : ℕ}
-    {h more : History} → (fault → other) → WholeTalk fault q s at_once came c h more
+talk_for : {fault other : KnownOctets → Type 0} {q : List Question} {s : MetaSettings} {at_once : Bool} {came : KnownOctets} {c : ℕ}
+    {h more : History} → ((left : KnownOctets) → fault left → other left) → WholeTalk fault q s at_once came c h more
     → WholeTalk other q s at_once came c h more
 talk_for f (ended_itself t first over) = ended_itself t first over
-talk_for f (was_stopped reason t first for cut faulty) = was_stopped reason t first for cut (λ is. f (faulty is))
+talk_for f (was_stopped reason t first for cut faulty) = was_stopped reason t first for cut (λ is. f first.0 (faulty is))
 
-pub talk_if_for : {fault other : Type 0} (q : List Question) (s : MetaSettings) (at_once : Bool) (c : ℕ)
-    (h more : History) → (fault → other) → (link : Option KnownOctets) → WholeTalkIf fault q s at_once c h link more
+pub talk_if_for : {fault other : KnownOctets → Type 0} (q : List Question) (s : MetaSettings) (at_once : Bool) (c : ℕ)
+    (h more : History) → ((left : KnownOctets) → fault left → other left) → (link : Option KnownOctets) → WholeTalkIf fault q s at_once c h link more
     → WholeTalkIf other q s at_once c h link more
 talk_if_for q s at_once c h more f (Some came) t = talk_for f t
 talk_if_for q s at_once c h more f None t = t
@@ -104,7 +104,7 @@ talk_if_for q s at_once c h more f None t = t
 cut_alike : (s : MetaSettings) (c : ℕ) (h k : History) → events_on c h ≡ events_on c k → IsCutOff s c h → IsCutOff s c k
 cut_alike s c h k e cut p heard = cut p (transcript_alike (settings_of s) c h k p e heard)
 
-talking_alike : {fault : Type 0} {q : List Question} {s : MetaSettings} {at_once : Bool} {came : KnownOctets} {c : ℕ}
+talking_alike : {fault : KnownOctets → Type 0} {q : List Question} {s : MetaSettings} {at_once : Bool} {came : KnownOctets} {c : ℕ}
     {h more : History} (k : History) → events_on c h ≡ events_on c k → WholeTalk fault q s at_once came c h more
     → WholeTalk fault q s at_once came c k more
 talking_alike {s = s} {c = c} {h = h} k e (ended_itself {more = more} f first over) =
@@ -124,13 +124,13 @@ others_opening {c = c} i (unsent came calls octets own idle all) far =
     only_other c i (Stopped reasons.Write) ((c, HandedOut octets) ∷ call_events c calls) far
     ∙ only_other c i (HandedOut octets) (call_events c calls) far ∙ others_made c i calls far
 
-others_talking : {fault : Type 0} {q : List Question} {s : MetaSettings} {at_once : Bool} {came : KnownOctets} {c : ℕ}
+others_talking : {fault : KnownOctets → Type 0} {q : List Question} {s : MetaSettings} {at_once : Bool} {came : KnownOctets} {c : ℕ}
     {h more : History} (i : ℕ) → WholeTalk fault q s at_once came c h more → (c == i) ≡ false → events_on i more ≡ []
 others_talking i (ended_itself f first over) far = others_follow i f far
 others_talking {c = c} i (was_stopped {more = more} reason f first for cut faulty) far =
     only_other c i (Stopped reason) more far ∙ others_follow i f far
 
-pub others_talk : (fault : Type 0) (q : List Question) (s : MetaSettings) (at_once : Bool) (c : ℕ) (h more : History)
+pub others_talk : (fault : KnownOctets → Type 0) (q : List Question) (s : MetaSettings) (at_once : Bool) (c : ℕ) (h more : History)
     (link : Option KnownOctets) (i : ℕ) → WholeTalkIf fault q s at_once c h link more → (c == i) ≡ false
     → events_on i more ≡ []
 others_talk fault q s at_once c h more (Some came) i t far = others_talking i t far

@@ -17,7 +17,7 @@ module _ (host : HostClaims) (q : List Question) (s : MetaSettings) (c : ℕ) (h
     (over : IsStoppedAt s c now) (first : View) (o : IsOpened host q s c (Some first.source.octets) h) where
   -- The connection as its talk ended.
   pub ended : (reads turns : ℕ) (last : View) → reads ≤ 1000000000
-      → (0 < last.source.failures → host.IsFaulty) → TalkEndAmong q s c h now reads turns first last
+      → (0 < last.source.failures → host.IsFaulty last.source.octets) → TalkEndAmong q s c h now reads turns first last
       → IsConnectionAsked host q s true c now
   ended reads turns last few why (stopped_by_itself t sound) =
       talked_out host q s true first.source.octets c h now t.more o

@@ -466,9 +466,9 @@ get_within (x ∷ xs) (suc i) lt is = get_within xs i (omega (arith, lt)) is
 
 module _ {A E : Type 0} (IsFor : List ℕ → A → Type 0) (claims : List ℕ → HostClaims) (view : E → HostView A)
     (name : List ℕ) (q : List Question) (s : MetaSettings) (c : ℕ) (now : History)
-    (faulty : (x : E) (last : View) → view x ≡ Talking last → 0 < last.source.failures → (claims name).IsFaulty) where
+    (faulty : (x : E) (last : View) → view x ≡ Talking last → 0 < last.source.failures → (claims name).IsFaulty last.source.octets) where
   asked_talk : (chosen : Bool) (phase : TalkPhase) (last : View)
-      → (0 < last.source.failures → (claims name).IsFaulty) → last.phase ≡ phase → phase ≡ phases.Over
+      → (0 < last.source.failures → (claims name).IsFaulty last.source.octets) → last.phase ≡ phase → phase ≡ phases.Over
       → (chosen ≡ true) × IsTalkedWith (claims name) q s c now 1000000000 last
       → IsConnectionAskedIf (claims name) chosen q s true c now
   asked_talk chosen phase last why at over o =
@@ -518,7 +518,7 @@ pub asked_at_once : {A R W : Type 0} (attempts : List (Option A)) (first last : 
     (claims : Option (List ℕ) → HostClaims) (q : List Question) (s : MetaSettings)
     (address : ℕ → Option (List ℕ)) (old new : MetaLinks)
     → ((name : Option (List ℕ)) (x : HostTalk A R W) (v : View) → view x ≡ Talking v → 0 < v.source.failures
-    → (claims name).IsFaulty) → MetaAfter q s [] old → length last ≡ length q
+    → (claims name).IsFaulty v.source.octets) → MetaAfter q s [] old → length last ≡ length q
     → AreAllBegun attempts first → ((c : ℕ) → is_present attempts c ≡ is_some (address c))
     → AreAttempts address attempts IsFor
     → HostsStep IsFor (λ name. claims (Some name)) view 0 1000000000 first last old new → AreHostsOver view last
@@ -553,11 +553,17 @@ abbrev failures_of : {A : Type 0} → HostView A → ℕ
 failures_of (Talking v) = v.source.failures
 failures_of _ = 0
 
+-- The octets that it has left.
+abbrev left_of : {A : Type 0} → HostView A → KnownOctets
+left_of (Talking v) = v.source.octets
+left_of _ = None
+
 -- What is known of a source that failed.
-pub view_faulty : {A R W : Type 0} (state : R → DeviceState) (polls : R → ℕ) (held : W → DeviceState) (fault : Type 0)
-    → ((source : R) → 0 < (state source).failures → fault) → (x : HostTalk A R W) (v : View)
-    → host_view state polls held x ≡ Talking v → 0 < v.source.failures → fault
+pub view_faulty : {A R W : Type 0} (state : R → DeviceState) (polls : R → ℕ) (held : W → DeviceState)
+    (fault : KnownOctets → Type 0) → ((source : R) → 0 < (state source).failures → fault (state source).octets)
+    → (x : HostTalk A R W) (v : View) → host_view state polls held x ≡ Talking v → 0 < v.source.failures
+    → fault v.source.octets
 view_faulty state polls held fault why (talks.Talking halves) v is lt =
-    why halves.source (subst (λ n. 0 < n) (sym (ap failures_of is)) lt)
+    subst fault (ap left_of is) (why halves.source (subst (λ n. 0 < n) (sym (ap failures_of is)) lt))
 view_faulty state polls held fault why talks.Out v is lt = absurd cc
 view_faulty state polls held fault why (talks.Connecting a) v is lt = absurd cc

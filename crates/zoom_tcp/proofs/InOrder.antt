@@ -23,10 +23,10 @@ pub has_some : (old new : ℕ) → HasFailed old new → 0 < new
 has_some old new (inl one) = omega (arith, one)
 has_some old new (inr most) = omega (arith, most)
 
-pub talks_none : (fault : Type 0) (c : ℕ) (m : MetaLinks) → AfterTalkOn fault c None m m
+pub talks_none : (fault : KnownOctets → Type 0) (c : ℕ) (m : MetaLinks) → AfterTalkOn fault c None m m
 talks_none fault c m = record { on = λ q s h a. record { more = []; talked = refl; after = a; over = λ e. absurd cc } }
 
-pub talks_itself : (fault : Type 0) (c : ℕ) (old new : MetaLinks) (source left sink held : DeviceState)
+pub talks_itself : (fault : KnownOctets → Type 0) (c : ℕ) (old new : MetaLinks) (source left sink held : DeviceState)
     → AfterTalk c 1000000 (Ok tt) old new source left sink held → AfterTalkOn fault c (Some source.octets) old new
 talks_itself fault c old new source left sink held t = record {
   on = λ q s h a.
@@ -39,9 +39,9 @@ talks_itself fault c old new source left sink held t = record {
       };
 }
 
-pub talks_stopped : (fault : Type 0) (c : ℕ) (e : TalkError) (old new : MetaLinks) (source left sink held : DeviceState)
+pub talks_stopped : (fault : KnownOctets → Type 0) (c : ℕ) (e : TalkError) (old new : MetaLinks) (source left sink held : DeviceState)
     → AfterTalk c 1000000 (Err e) old new source left sink held → (e ≡ talks.Memory → ⊥)
-    → (0 < left.failures → fault)
+    → (0 < left.failures → fault left.octets)
     → AfterTalkOn fault c (Some source.octets) old new
 talks_stopped fault c talks.Read old new source left sink held t other why = record {
   on = λ q s h a.
@@ -172,7 +172,7 @@ any_link host q s at_once true c h t = record {
   link = t.link;
   opening = opening_for (λ came own. tt) (λ why. tt) t.opening;
   more = t.more;
-  talked = talk_if_for q s at_once c t.opened t.more (λ why. tt) t.link t.talked;
+  talked = talk_if_for q s at_once c t.opened t.more (λ left why. tt) t.link t.talked;
   mine = t.mine;
   over = t.over;
 }

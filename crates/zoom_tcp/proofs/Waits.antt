@@ -41,17 +41,17 @@ module _ {Address Socket : Type 0} (facts : SocketFacts Address Socket) (limits 
 
   -- A host was silent for as long as the patience.
   pub was_silent : (socket : Socket) (left : KnownOctets) (since now : Duration) → IsKnownLeft facts socket left since
-      → facts.IsIdleAt socket now left → IsOver since now limits.patience → HasReadFault facts limits begun
+      → facts.IsIdleAt socket now left → IsOver since now limits.patience → HasReadFault facts limits begun left
   was_silent socket left since now known idle over = ∥∥₁_map known by
     where
-      by : IsLeftSince facts socket since left ⊎ facts.HasNoClock → ReadFault facts limits begun
-      by (inl is) = silent_host socket since now left is idle over
+      by : IsLeftSince facts socket since left ⊎ facts.HasNoClock → ReadFault facts limits begun left
+      by (inl is) = silent_host socket since now is idle over
       by (inr none) = no_clock none
 
   -- A socket was given up after as many looks as there can be, while none of its octets had come.
   pub left_idle : (socket : Socket) (left : KnownOctets) (at : Option Duration) (looks : ℕ) → looks ≡ most_looks
       → AtTime facts.HasNoClock (λ time. facts.IsIdleAt socket time left) at → facts.IsGivenUp socket looks
-      → HasReadFault facts limits begun
+      → HasReadFault facts limits begun left
   left_idle socket left (Some now) looks most idle given =
-      ∣ given_up socket now left idle (subst (facts.IsGivenUp socket) most given) ∣₁
+      ∣ given_up socket now idle (subst (facts.IsGivenUp socket) most given) ∣₁
   left_idle socket left None looks most idle given = ∣ no_clock idle ∣₁

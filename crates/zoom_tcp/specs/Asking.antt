@@ -34,14 +34,15 @@ link_at links octets c = octets_of (halves_at links c) octets
 abbrev pub CameFirst : KnownOctets → List ℕ → Type 0
 CameFirst came read = (left : KnownOctets) × Consumes came left read
 
--- What is said of asking a host: which octets come over a link to it, why it was not reached, and why a read failed.
+-- What is said of asking a host: which octets come over a link to it, why it was not reached, and why a read failed
+-- while these octets were left to come.
 pub record HostClaims : Type 1 where
   -- these octets come over a link to it
   pub IsOwn : KnownOctets → Type 0
   -- there is a reason that it was not reached
   pub IsUnreached : Type 0
-  -- there is a reason that a read of it failed
-  pub IsFaulty : Type 0
+  -- there is a reason that a read of it failed while these octets were left to come
+  pub IsFaulty : KnownOctets → Type 0
 
 -- ---- the events of one connection
 
@@ -79,23 +80,24 @@ CanStopFor at_once Ended reads reasons.Ended = Unit {0}
 CanStopFor at_once _ reads reason = ⊥
 
 -- A whole talk: the octets that came over the link first were read, and the connection ended by itself, or was
--- stopped. It is stopped for `Ended` only if the end of the input cut it off, and for `Read` only if a read failed.
+-- stopped. It is stopped for `Ended` only if the end of the input cut it off, and for `Read` only if a read failed
+-- while the octets were left that were not read.
 pub data WholeTalk
-    (IsFaulty : Type 0) (questions : List Question) (s : MetaSettings) (at_once : Bool) (came : KnownOctets) (c : ℕ)
-    (h : History)
+    (IsFaulty : KnownOctets → Type 0) (questions : List Question) (s : MetaSettings) (at_once : Bool)
+    (came : KnownOctets) (c : ℕ) (h : History)
     : History → Type 0 where
   ended_itself : {more : History} {read written : List ℕ} {reads : ℕ} {stage : Stage}
       → TalkTrace questions s c h more read written reads stage → CameFirst came read → IsStoppedAt s c (more ++ h)
       → WholeTalk IsFaulty questions s at_once came c h more
   stopped_for_reason : {more : History} {read written : List ℕ} {reads : ℕ} {stage : Stage} (reason : Reason)
-      → TalkTrace questions s c h more read written reads stage → CameFirst came read
+      → TalkTrace questions s c h more read written reads stage → (first : CameFirst came read)
       → CanStopFor at_once stage reads reason → (reason ≡ reasons.Ended → IsCutOff s c (more ++ h))
-      → (reason ≡ reasons.Read → IsFaulty)
+      → (reason ≡ reasons.Read → IsFaulty first.0)
       → WholeTalk IsFaulty questions s at_once came c h ((c, Stopped reason) ∷ more)
 
 -- A whole talk if there is a link, and no events otherwise.
 abbrev pub WholeTalkIf
-    : Type 0 → List Question → MetaSettings → Bool → ℕ → History → Option KnownOctets → History → Type 0
+    : (KnownOctets → Type 0) → List Question → MetaSettings → Bool → ℕ → History → Option KnownOctets → History → Type 0
 WholeTalkIf IsFaulty questions s at_once c h (Some came) more = WholeTalk IsFaulty questions s at_once came c h more
 WholeTalkIf IsFaulty questions s at_once c h None more = more ≡ []
 
@@ -132,7 +134,7 @@ pub record IsAskedOver
 
 -- Nothing is known of the host.
 abbrev pub any_host : HostClaims
-any_host = record { IsOwn = λ came. Unit {0}; IsUnreached = Unit {0}; IsFaulty = Unit {0} }
+any_host = record { IsOwn = λ came. Unit {0}; IsUnreached = Unit {0}; IsFaulty = λ left. Unit {0} }
 
 -- Each chosen connection is asked, over some link.
 abbrev pub IsAsked : List Question → MetaSettings → Bool → (ℕ → Bool) → MetaLinks → Type 0

@@ -12,11 +12,11 @@ use Rattle.zoom_tcp.specs.Asking.{KnownOctets, HostClaims, link_at, Opening, Who
 
 -- What is said of a host if this is its link, or if it has none.
 abbrev pub only_link : Option KnownOctets → HostClaims
-only_link link = record { IsOwn = λ came. link ≡ Some came; IsUnreached = link ≡ None; IsFaulty = ⊥ }
+only_link link = record { IsOwn = λ came. link ≡ Some came; IsUnreached = link ≡ None; IsFaulty = λ left. ⊥ }
 
 -- What is said of a host over whose link these octets come.
 abbrev pub link_over : KnownOctets → HostClaims
-link_over came = record { IsOwn = λ z. z ≡ came; IsUnreached = ⊥; IsFaulty = ⊥ }
+link_over came = record { IsOwn = λ z. z ≡ came; IsUnreached = ⊥; IsFaulty = λ left. ⊥ }
 
 -- The link over which these octets come, if the connection was opened.
 abbrev pub link_when : Bool → KnownOctets → Option KnownOctets
@@ -45,7 +45,7 @@ AfterOpenIf host false c link old new = (link ≡ None) × (new ≡ old)
 
 -- After a history, the host was talked with if there is a link, and its connection is Closed or Failed.
 pub record FinishedTalk
-    (IsFaulty : Type 0) (questions : List Question) (s : MetaSettings) (c : ℕ) (h : History)
+    (IsFaulty : KnownOctets → Type 0) (questions : List Question) (s : MetaSettings) (c : ℕ) (h : History)
     (link : Option KnownOctets) (new : MetaLinks)
     : Type 0 where
   pub more : History
@@ -54,7 +54,9 @@ pub record FinishedTalk
   pub over : is_some link ≡ true → IsStoppedAt s c (more ++ h)
 
 -- What talking with a host does, after every history.
-pub record AfterTalkOn (IsFaulty : Type 0) (c : ℕ) (link : Option KnownOctets) (old new : MetaLinks) : Type 0 where
+pub record AfterTalkOn
+    (IsFaulty : KnownOctets → Type 0) (c : ℕ) (link : Option KnownOctets) (old new : MetaLinks)
+    : Type 0 where
   pub on : (questions : List Question) (s : MetaSettings) (h : History)
       → MetaAfter questions s h old → FinishedTalk IsFaulty questions s c h link new
 

@@ -91,19 +91,18 @@ module _ {Address Socket : Type 0} (facts : SocketFacts Address Socket) where
 
 -- What the calls of the sockets gave, the limits, and when everything began.
 module _ {Address Socket : Type 0} (facts : SocketFacts Address Socket) (limits : Limits) (begun : Duration) where
-  -- Why a read fails. The clock failed; the socket did; no octets came for as long as the patience: those that are left
-  -- are left since a time, and none had come by another time, which is as far from it; the time for everything is over,
-  -- by a time that the clock gave; or no octets had come when the socket was given up.
-  pub data ReadFault : Type 0 where
-    no_clock : facts.HasNoClock → ReadFault
-    broken_socket : (socket : Socket) → facts.IsBroken socket → ReadFault
-    silent_host : (socket : Socket) (since now : Duration) (left : KnownOctets)
-        → IsLeftSince facts socket since left → facts.IsIdleAt socket now left → IsOver since now limits.patience
-        → ReadFault
-    total_over : (now : Duration) → facts.IsMoment now → IsTotalOver limits begun now → ReadFault
-    given_up : (socket : Socket) (now : Duration) (left : KnownOctets) → facts.IsIdleAt socket now left
-        → facts.IsGivenUp socket most_looks → ReadFault
+  -- Why a read fails while these octets are left to come. The clock failed; the socket did; no octets came for as long
+  -- as the patience: they are left since a time, and none had come by another time, which is as far from it; the time
+  -- for everything is over, by a time that the clock gave; or none had come when the socket was given up.
+  pub data ReadFault (left : KnownOctets) : Type 0 where
+    no_clock : facts.HasNoClock → ReadFault left
+    broken_socket : (socket : Socket) → facts.IsBroken socket → ReadFault left
+    silent_host : (socket : Socket) (since now : Duration) → IsLeftSince facts socket since left
+        → facts.IsIdleAt socket now left → IsOver since now limits.patience → ReadFault left
+    total_over : (now : Duration) → facts.IsMoment now → IsTotalOver limits begun now → ReadFault left
+    given_up : (socket : Socket) (now : Duration) → facts.IsIdleAt socket now left
+        → facts.IsGivenUp socket most_looks → ReadFault left
 
   -- There is such a reason.
-  abbrev pub HasReadFault : Type 0
-  HasReadFault = ∥ ReadFault ∥₁
+  abbrev pub HasReadFault : KnownOctets → Type 0
+  HasReadFault left = ∥ ReadFault left ∥₁

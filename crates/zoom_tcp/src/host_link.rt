@@ -1,5 +1,5 @@
 //! A link to a host: a source and a sink over one socket, with time limits.
-ghost use Rattle.std.specs.Prelude.{◌≡◌, ◌<◌, None, Some, length, IfOk, IfSome, OnOk, OnErr, IsErr};
+ghost use Rattle.std.specs.Prelude.{◌≡◌, ◌<◌, ℕ, List, Option, None, Some, length, IfOk, IfSome, OnOk, OnErr, IsErr};
 ghost use Rattle.std.specs.Option.{ForSome, ForNone};
 ghost use Rattle.std.specs.Io.{ReadsAtMost, WritesAtMost};
 ghost use Rattle.zoom_io.specs.Devices.{IsBoundedPoll, IsCounted, AfterRead, AfterPoll, polls_after};
@@ -40,7 +40,7 @@ pub struct HostSource<'a, S: Sockets, K: Limited> {
     polls: u64,
     ghost unread: { ForNone came_at (S.octets_left timed.socket.value cursor ≡ S.facts.octets timed.socket.value) },
     ghost left: { ForSome came_at (IsKnownLeft S.facts timed.socket.value (S.octets_left timed.socket.value cursor)) },
-    ghost fault: { 0 < failures → HasReadFault S.facts K.limits K.begun },
+    ghost fault: { 0 < failures → HasReadFault S.facts K.limits K.begun (S.octets_left timed.socket.value cursor) },
 }
 
 /// The sink of a link. A write never waits: what the host does not take now, later polls of the source write.
@@ -66,7 +66,7 @@ impl<'a, S: Sockets, K: Limited> TimedSocket<'a, S, K> {
     fn now(&self) -> Result<Duration, Failed>
         ensures seen { IfOk result S.facts.IsMoment }
         ensures early { IfOk result (λ now. IfSome K.limits.total (IsWithin K.begun now)) }
-        ensures fault { OnErr result (HasReadFault S.facts K.limits K.begun) }
+        ensures fault { OnErr result ((left : Option (List ℕ)) → HasReadFault S.facts K.limits K.begun left) }
     {
         let Some(now) = self.network.sockets.now() else {
             return Err(Failed);
@@ -178,7 +178,8 @@ impl<'a, S: Sockets, K: Limited> HostSource<'a, S, K> {
         ensures polls { self.new.polls ≡ self.old.polls }
         // after a failure, if it fails, and if none have come yet
         ensures stays { 0 < self.old.failures → IsErr result }
-        ensures fault { OnErr result (HasReadFault S.facts K.limits K.begun) }
+        ensures fault { OnErr result (HasReadFault S.facts K.limits K.begun
+            (S.octets_left self.new.timed.socket.value self.new.cursor)) }
         ensures early { IfNotYet result (IsInTime S.facts.IsMoment K.limits K.begun self.new.came_at) }
     {
         if self.failures > 0 {
@@ -198,6 +199,7 @@ impl<'a, S: Sockets, K: Limited> HostSource<'a, S, K> {
         piece: &mut [u8],
         wait: bool,
     ) -> Result<Option<usize>, Failed>
+        requires { self.old.failures ≡ 0 }
         // the octets
         ensures bound { IsBoundedPoll result piece.new }
         ensures octets { IsPolled (S.octets_left self.old.timed.socket.value self.old.cursor)
@@ -206,7 +208,8 @@ impl<'a, S: Sockets, K: Limited> HostSource<'a, S, K> {
         ensures failures { self.new.failures ≡ self.old.failures }
         ensures polls { self.new.polls ≡ self.old.polls }
         // if it fails, and if none have come yet
-        ensures fault { OnErr result (HasReadFault S.facts K.limits K.begun) }
+        ensures fault { OnErr result (HasReadFault S.facts K.limits K.begun
+            (S.octets_left self.new.timed.socket.value self.new.cursor)) }
         ensures early { IfNotYet result (IsInTime S.facts.IsMoment K.limits K.begun self.new.came_at) }
     {
         let network = self.timed.network;
@@ -246,7 +249,8 @@ impl<'a, S: Sockets, K: Limited> HostSource<'a, S, K> {
         piece: &mut [u8],
         came: Duration,
     ) -> Result<Option<usize>, Failed>
-        requires { self.old.came_at ≡ Some came }
+        requires came { self.old.came_at ≡ Some came }
+        requires sound { self.old.failures ≡ 0 }
         // the octets
         ensures bound { IsBoundedPoll result piece.new }
         ensures octets { IsPolled (S.octets_left self.old.timed.socket.value self.old.cursor)
@@ -255,7 +259,8 @@ impl<'a, S: Sockets, K: Limited> HostSource<'a, S, K> {
         ensures failures { self.new.failures ≡ self.old.failures }
         ensures polls { self.new.polls ≡ self.old.polls }
         // if it fails, and if none have come yet
-        ensures fault { OnErr result (HasReadFault S.facts K.limits K.begun) }
+        ensures fault { OnErr result (HasReadFault S.facts K.limits K.begun
+            (S.octets_left self.new.timed.socket.value self.new.cursor)) }
         ensures early { IfNotYet result (IsInTime S.facts.IsMoment K.limits K.begun self.new.came_at) }
     {
         let network = self.timed.network;
@@ -317,7 +322,8 @@ impl<'a, S: Sockets, K: Limited> HostSource<'a, S, K> {
         requires idle { AtTime S.facts.HasNoClock (λ time. S.facts.IsIdleAt self.now.timed.socket.value time
             (S.octets_left self.now.timed.socket.value self.now.cursor)) at }
         ensures early { OnOk result (IsInTime S.facts.IsMoment K.limits K.begun self.now.came_at) }
-        ensures fault { OnErr result (HasReadFault S.facts K.limits K.begun) }
+        ensures fault { OnErr result (HasReadFault S.facts K.limits K.begun
+            (S.octets_left self.now.timed.socket.value self.now.cursor)) }
     {
         let Some(at) = at else {
             return Err(Failed);

@@ -58,7 +58,7 @@ fed_talk {c = c} (input_end {more = more} f) =
     ap fed (only_same c Took ((c, InputEnded) ∷ more)) ∙ ap fed (only_same c InputEnded more) ∙ fed_talk f
 
 -- What a whole talk fed came first.
-fed_whole : {fault : Type 0} {q : _} {s : _} {at_once : Bool} {came : KnownOctets} {c : ℕ} {h more : History}
+fed_whole : {fault : KnownOctets → Type 0} {q : _} {s : _} {at_once : Bool} {came : KnownOctets} {c : ℕ} {h more : History}
     → WholeTalk fault q s at_once came c h more → CameFirst came (fed (events_on c more))
 fed_whole {came = came} (ended_itself f first over) = subst (CameFirst came) (sym (fed_talk f)) first
 fed_whole {came = came} {c = c} (was_stopped {more = more} reason f first for cut faulty) =
@@ -114,17 +114,18 @@ opening_for f g (unreached why) = unreached (g why)
 opening_for f g (begun came calls octets own idle all) = begun came calls octets (f came own) idle all
 opening_for f g (unsent came calls octets own idle all) = unsent came calls octets (f came own) idle all
 
-talk_for : {fault other : Type 0} (q : _) (s : _) (at_once : Bool) (c : ℕ) (h more : History) → (fault → other)
+talk_for : {fault other : KnownOctets → Type 0} (q : _) (s : _) (at_once : Bool) (c : ℕ) (h more : History)
+    → ((left : KnownOctets) → fault left → other left)
     → (link : Option KnownOctets) → WholeTalkIf fault q s at_once c h link more
     → WholeTalkIf other q s at_once c h link more
 talk_for q s at_once c h more f None t = t
 talk_for q s at_once c h more f (Some came) (ended_itself t first over) = ended_itself t first over
 talk_for q s at_once c h more f (Some came) (was_stopped reason t first for cut faulty) =
-    was_stopped reason t first for cut (λ is. f (faulty is))
+    was_stopped reason t first for cut (λ is. f first.0 (faulty is))
 
 pub asked_for : (host other : HostClaims) (chosen : Bool) (q : _) (s : _) (at_once : Bool) (c : ℕ) (h : History)
     → ((came : KnownOctets) → host.IsOwn came → other.IsOwn came) → (host.IsUnreached → other.IsUnreached)
-    → (host.IsFaulty → other.IsFaulty) → IsConnectionAskedIf host chosen q s at_once c h
+    → ((left : KnownOctets) → host.IsFaulty left → other.IsFaulty left) → IsConnectionAskedIf host chosen q s at_once c h
     → IsConnectionAskedIf other chosen q s at_once c h
 asked_for host other true q s at_once c h f g k t = record {
   opened = t.opened;
@@ -302,12 +303,12 @@ module _ {Place : Type 0} (places : List Place) (name_of : Place → List ℕ) (
     not_total now still over =
         not_over over.0 begun now (total_open limits.total allowed.1 over.0 over.1) still over.2
 
-    no_fault : ReadFault (facts_of places name_of sends) limits begun → ⊥
-    no_fault (fault_no_clock none) = none
-    no_fault (broken_socket socket none) = none
-    no_fault (silent_host socket since now left from idle over) = idle
-    no_fault (fault_total_over now last over) = not_total now last over
-    no_fault (fault_given_up socket now left idle gone) = idle
+    no_fault : (left : KnownOctets) → ReadFault (facts_of places name_of sends) limits begun left → ⊥
+    no_fault left (fault_no_clock none) = none
+    no_fault left (broken_socket socket none) = none
+    no_fault left (silent_host socket since now from idle over) = idle
+    no_fault left (fault_total_over now last over) = not_total now last over
+    no_fault left (fault_given_up socket now idle gone) = idle
 
     -- The address of a socket does not refuse it.
     not_refused : (addresses : List ℕ) (place socket : ℕ)
@@ -371,7 +372,7 @@ module _ {Place : Type 0} (places : List Place) (name_of : Place → List ℕ) (
         (is_some (names c)) q s false c over.history = λ c lt. asked_for
         (claims_of (facts_of places name_of sends) limits begun false (names c))
         (known_host places name_of sends (names c)) (is_some (names c)) q s false c over.history (own_sent (names c))
-        (unreached_for (names c)) (λ why. ∥∥₁_elim why ⊥_prop no_fault) (over.each c lt) in (
+        (unreached_for (names c)) (λ left why. ∥∥₁_elim why ⊥_prop (no_fault left)) (over.each c lt) in (
           record { history = over.history; after = over.after; each = each },
           λ c lt. own_read (names c) q s false c over.history (each c lt),
         )

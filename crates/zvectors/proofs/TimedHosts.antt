@@ -92,16 +92,16 @@ module _ {Host : Type 0} (hosts : List Host) (sends : Host → List ℕ) (gap en
 
   module _ (limits : Limits) (begun total : Duration) (some : 0 < gap) (often : gap ≤ as_nanos limits.patience)
       (first : as_nanos begun ≡ 0) (limited : limits.total ≡ Some total) (last : as_nanos total ≡ end) where
-    at_end : ReadFault (timed_facts hosts sends gap end) limits begun → (time : Duration) × (as_nanos time ≡ end)
-    at_end (no_clock none) = absurd none
-    at_end (broken_socket socket none) = absurd none
-    at_end (silent_host socket since now left from idle over) =
+    at_end : (left : KnownOctets) → ReadFault (timed_facts hosts sends gap end) limits begun left → (time : Duration) × (as_nanos time ≡ end)
+    at_end left (no_clock none) = absurd none
+    at_end left (broken_socket socket none) = absurd none
+    at_end left (silent_host socket since now from idle over) =
         absurd (never_silent limits.patience some often socket since now left from idle over)
-    at_end (total_over now moment over) =
+    at_end left (total_over now moment over) =
         let same : over.0 ≡ total = some_same over.0 total (sym over.1 ∙ limited) in
         let past = subst (λ z. IsOver begun now z) same over.2 in
         (now, omega (arith, moment, past, first, last))
-    at_end (given_up socket now left idle gone) = absurd gone
+    at_end left (given_up socket now idle gone) = absurd gone
 
     -- The connections are asked so.
     pub asked_timed : (names : ℕ → Option (List ℕ)) (q : _) (s : _) (at_once : Bool) (chosen : ℕ → Bool) (meta : _)
@@ -113,5 +113,5 @@ module _ {Host : Type 0} (hosts : List Host) (sends : Host → List ℕ) (gap en
       after = over.after;
       each = λ c lt. asked_for (claims_of (timed_facts hosts sends gap end) limits begun at_once (names c))
           (timed_host end) (chosen c) q s at_once c over.history (λ came own. tt) (λ why. tt)
-          (λ why. ∥∥₁_map why at_end) (over.each c lt);
+          (λ left why. ∥∥₁_map why (at_end left)) (over.each c lt);
     }

@@ -88,7 +88,7 @@ module _ {Place : Type 0} (places : List Place) (name_of : Place → List ℕ) (
   -- What is said of asking the host of a connection's own name: all its octets come, and no read fails. If it is not
   -- reached, each of its addresses refuses.
   abbrev pub known_host : Option (List ℕ) → HostClaims
-  known_host name = record { IsOwn = IsSentTo name; IsUnreached = IsRefusedTo name; IsFaulty = ⊥ }
+  known_host name = record { IsOwn = IsSentTo name; IsUnreached = IsRefusedTo name; IsFaulty = λ left. ⊥ }
 
   -- What was read is a front of all octets of an address of this name.
   pub record IsFrontSent (name read : List ℕ) : Type 0 where

@@ -69,5 +69,5 @@ abbrev pub timed_host : ℕ → HostClaims
 timed_host end = record {
   IsOwn = λ came. Unit {0};
   IsUnreached = Unit {0};
-  IsFaulty = ∥ ((time : Duration) × (as_nanos time ≡ end)) ∥₁;
+  IsFaulty = λ left. ∥ ((time : Duration) × (as_nanos time ≡ end)) ∥₁;
 }
