@@ -16,6 +16,6 @@ pub use zoom_sim::channels::{Channel, InMemory};
 pub use zoom_sim::{run_over, run_world};
 pub use zoom_tcp::{
     Arrival, Clients, ConnectProgress, Limits, Network, Readiness, Received, ServeError, Sockets,
-    TcpClients, TcpLink, TcpSockets, Transfer, ask, ask_at_once, ask_at_once_over, ask_over,
-    run_loopback, serve, serve_over,
+    TcpClients, TcpLink, TcpSockets, Transfer, ask, ask_at_once, ask_over, run_loopback, serve,
+    serve_over,
 };

@@ -5,7 +5,7 @@ use Rattle.std.proofs.lemmas.Bool.{cases_lt}
 use Rattle.std.specs.declared.time.Duration.{Duration}
 use Rattle.zoom_tcp.specs.SocketFacts.{SocketFacts}
 use Rattle.zoom_tcp.specs.HostLinks.{IsTried, IsSocketTo, IsHostLink}
-use Rattle.zoom_tcp.specs.Silence.{IsOver, IsTotalOver, IsSeen, IsWaitStart, connecting, no_clock as without_clock, most_looks}
+use Rattle.zoom_tcp.specs.Silence.{IsOver, IsTotalOver, IsSeen, IsStart, IsWaitStart, connecting, no_clock as without_clock, most_looks}
 use Rattle.zoom_tcp.specs.Connecting.{AreAddressesOf, IsFailed, AreFailedBelow, IsUnreached, no_text, all_failed, no_clock, no_answer, total_over, given_up, IsLeft, HasEnded, IsWaited, IsAtStage, IsAttempt, IsFitIf, AttemptStepIf, AreAttempts, AttemptsStep, IsLinkFor, IsEntryIf, AreEntries}
 use Rattle.zoom_io.specs.TalksAmong.{halves_at}
 use Rattle.zoom_tcp.specs.Asking.{KnownOctets}
@@ -188,9 +188,9 @@ module _ {Address Socket : Type 0} (facts : SocketFacts Address Socket) (limits 
           let at : n ≡ i = omega (arith, lt, past) in subst (IsFailed facts addresses) at failed
 
   -- The time is over.
-  pub late : (name : List ℕ) (started now : Duration) → IsSeen facts started → IsSeen facts now
+  pub late : (name : List ℕ) (started now : Duration) → IsStart facts started → IsSeen facts now
       → IsOver started now limits.patience → IsUnreached facts limits begun at_once name
-  late name started now (inl first) (inl last) over = no_answer started now first last over
+  late name started now (inl first) (inl last) over = no_answer started now first.0 first.1 last over
   late name started now (inr none) last over = no_clock none
   late name started now (inl first) (inr none) over = no_clock none
 
@@ -206,14 +206,20 @@ module _ {Address Socket : Type 0} (facts : SocketFacts Address Socket) (limits 
   left_socket name addresses socket named to given =
       given_up addresses (socket_found name addresses socket named to) socket to given
 
+-- Connecting began at a time that was seen.
+pub start_seen : {Address Socket : Type 0} (facts : SocketFacts Address Socket) (time : Duration) → IsStart facts time
+    → IsSeen facts time
+start_seen facts time (inl first) = inl first.1
+start_seen facts time (inr none) = inr none
+
 -- A wait counts from when connecting began, if an address gave a socket.
 pub starts : {Address Socket : Type 0} (facts : SocketFacts Address Socket) (addresses : List Address) (place : ℕ)
     (socket : Socket) (started : Duration) → IsTried facts.IsOpening addresses place (Some socket)
-    → ∥ IsSeen facts started ∥₁ → ∥ IsWaitStart facts started ∥₁
-starts facts addresses place socket started tried seen = ∥∥₁_map seen by
+    → ∥ IsStart facts started ∥₁ → ∥ IsWaitStart facts started ∥₁
+starts facts addresses place socket started tried start = ∥∥₁_map start by
   where
-    by : IsSeen facts started → IsWaitStart facts started
-    by (inl moment) = connecting tried.address socket tried.opening moment
+    by : IsStart facts started → IsWaitStart facts started
+    by (inl first) = connecting tried.address socket tried.opening first.0 first.1
     by (inr none) = without_clock none
 
 -- ---- entries after one another

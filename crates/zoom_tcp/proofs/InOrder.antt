@@ -13,7 +13,7 @@ use Rattle.zoom_io.specs.Devices.{DeviceState, HasFailed}
 use Rattle.zoom_io.specs.TalkTraces.{AfterTalk}
 use Rattle.zoom_io.proofs.Joining.{stopped_over}
 use Rattle.zoom_tcp.specs.Asking.{KnownOctets, HostClaims, octets_of, link_at, ended_itself, stopped_for_reason as was_stopped, WholeTalkIf, IsConnectionAskedIf, IsAskedOver, IsAsked, any_host}
-use Rattle.zoom_tcp.specs.AskingSteps.{FinishedTalk, AfterTalkOn, IsOpenedIf, AfterOpenAll, AreFirstAsked, AfterTalkAll}
+use Rattle.zoom_tcp.specs.AskingSteps.{FinishedTalk, AfterTalkOn, IsOpenedIf, AfterOpenAll, AreFirstAsked, AfterTalkAll, AfterAsk}
 use Rattle.zoom_tcp.proofs.Alike.{opening_for, talk_if_for, others_talk, talked_out, none_talked, opened_since, talked_since}
 
 -- ---- one of them
@@ -191,3 +191,10 @@ pub ok_over_any : {E : Type 0} (result : Result MetaLinks E) (claims : ℕ → H
     → IfOk result (IsAsked q s at_once chosen)
 ok_over_any (Ok meta) claims q s at_once chosen asked = asked_over_any claims q s at_once chosen meta asked
 ok_over_any (Err e) claims q s at_once chosen asked = tt
+
+-- Asking the hosts of new connections asks those of their questions.
+pub ok_asked : {E : Type 0} (result : Result MetaLinks E) (claims : ℕ → HostClaims) (n : ℕ) (at_once : Bool)
+    (chosen : ℕ → Bool) (new : MetaLinks) (q : List Question) (s : MetaSettings) → length q ≡ n → MetaAfter q s [] new
+    → IfOk result (AfterAsk claims n at_once chosen new) → IfOk result (IsAskedOver claims q s at_once chosen)
+ok_asked (Ok meta) claims n at_once chosen new q s size after asked = asked.on q s size after
+ok_asked (Err e) claims n at_once chosen new q s size after asked = tt

@@ -6,7 +6,7 @@ use Rattle.zoom_questions.specs.declared.question.MetaSettings.{MetaSettings}
 use Rattle.zoom_pool.specs.History.{History, events_on}
 use Rattle.zoom_pool.specs.Metas.{MetaLinks, MetaAfter}
 use Rattle.zoom_io.specs.TalkTraces.{IsStoppedAt}
-use Rattle.zoom_tcp.specs.Asking.{KnownOctets, HostClaims, link_at, Opening, WholeTalkIf, IsConnectionAskedIf}
+use Rattle.zoom_tcp.specs.Asking.{KnownOctets, HostClaims, link_at, Opening, WholeTalkIf, IsConnectionAskedIf, IsAskedOver}
 
 -- ---- one connection
 
@@ -108,3 +108,9 @@ module _ {A : Type 0} (links : List (Option A)) (octets : A → KnownOctets) (cl
   pub record AfterTalkAll (n : ℕ) (old new : MetaLinks) : Type 0 where
     pub on : (questions : List Question) (s : MetaSettings) (chosen : ℕ → Bool)
         → AreOpened questions s chosen old → AreFirstAsked questions s chosen n new
+
+-- What asking the hosts of the chosen connections does, when there are no events yet.
+pub record AfterAsk (claims : ℕ → HostClaims) (n : ℕ) (at_once : Bool) (chosen : ℕ → Bool) (old new : MetaLinks)
+    : Type 0 where
+  pub on : (questions : List Question) (s : MetaSettings) → length questions ≡ n → MetaAfter questions s [] old
+      → IsAskedOver claims questions s at_once chosen new

@@ -6,7 +6,7 @@ use Rattle.zoom_io.specs.TalksAmong.{halves_at}
 use Rattle.zoom_tcp.specs.SocketFacts.{SocketFacts}
 use Rattle.zoom_tcp.specs.Asking.{HostClaims}
 use Rattle.zoom_tcp.specs.HostLinks.{IsTried, IsSocketTo, IsOwnLink}
-use Rattle.zoom_tcp.specs.Silence.{IsOver, IsTotalOver, IsSeen, HasReadFault, most_looks}
+use Rattle.zoom_tcp.specs.Silence.{IsOver, IsTotalOver, IsSeen, IsStart, HasReadFault, most_looks}
 use Rattle.zoom_tcp.specs.declared.limits.Limits.{Limits}
 use Rattle.zoom_tcp.specs.declared.attempt.Tries.{Tries}
 use Rattle.zoom_tcp.specs.declared.attempt.AttemptStage.{AttemptStage}
@@ -52,7 +52,7 @@ module _ {Address Socket : Type 0} (facts : SocketFacts Address Socket) where
   pub record IsTrying {D : Type 0} (name : List ℕ) (tries : Tries Address Socket D) : Type 0 where
     pub named : AreAddressesOf name tries.addresses.items
     pub failed : AreFailedBelow tries.addresses.items tries.place
-    pub start : IsSeen facts tries.started
+    pub start : IsStart facts tries.started
 
 -- The same, with the limits, when everything began, and whether hosts are asked at once.
 module _ {Address Socket : Type 0} (facts : SocketFacts Address Socket) (limits : Limits) (begun : Duration)
@@ -72,7 +72,7 @@ module _ {Address Socket : Type 0} (facts : SocketFacts Address Socket) (limits 
     all_failed : (addresses : List Address) → facts.AreFound name addresses
         → AreFailedBelow facts addresses (length addresses) → IsUnreached name
     no_clock : facts.HasNoClock → IsUnreached name
-    no_answer : (started now : Duration) → facts.IsMoment started → facts.IsMoment now
+    no_answer : (started now : Duration) → facts.IsConnectingFrom started → facts.IsMoment started → facts.IsMoment now
         → IsOver started now limits.patience → IsUnreached name
     total_over : (now : Duration) → facts.IsMoment now → IsTotalOver limits begun now → IsUnreached name
     given_up : (addresses : List Address) → facts.AreFound name addresses → (socket : Socket)

@@ -26,6 +26,11 @@ abbrev pub IsBrokenIf : {Socket : Type 0} → (Socket → Type 0) → Socket →
 IsBrokenIf IsBroken socket Failure = IsBroken socket
 IsBrokenIf IsBroken socket _ = Unit {0}
 
+-- If it is told when a read gave nothing, it was this one.
+abbrev pub IsIdleNoted : Option Duration → Received → Type 0
+IsIdleNoted None received = Unit {0}
+IsIdleNoted (Some time) received = (received.moved ≡ NotYet) × (received.at ≡ Some time)
+
 -- A poll reads the octets that come next; they are unchanged if none have come or the poll fails.
 abbrev pub IsPolled : {E : Type 0} → KnownOctets → KnownOctets → Result (Option ℕ) E → List ℕ → Type 0
 IsPolled {E} old new (Ok (Some n)) piece = ReadConsumes {E = E} old new (Ok n) piece

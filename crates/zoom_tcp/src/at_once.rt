@@ -2,11 +2,12 @@
 ghost use Rattle.std.specs.Prelude.{◌≡◌, ◌<◌, ◌^◌, true, length, IfOk};
 ghost use Rattle.zoom_questions.specs.Askable.{AreFit, AreAskable};
 ghost use Rattle.zoom_io.specs.TalksAmong.{halves_at};
-ghost use Rattle.zoom_tcp.specs.Asking.{is_present, IsAsked, IsAskedOver};
+ghost use Rattle.zoom_tcp.specs.Asking.{is_present, IsAsked};
+ghost use Rattle.zoom_tcp.specs.AskingSteps.{AfterAsk};
 ghost use Rattle.zoom_tcp.specs.Connecting.{claims_of};
 ghost use Rattle.zoom_tcp.specs.HostTalks.{IsFirstOf, AreAllBegun};
-ghost use Rattle.zoom_tcp.specs.Silence.{AllowsWaits, AllowsListening};
 
+use crate::asking::ask_over;
 use crate::attempt::Attempt;
 use crate::connecting::begin_attempts;
 use crate::host_link::{HostSink, HostSource};
@@ -18,10 +19,8 @@ use crate::tcp_sockets::TcpSockets;
 use crate::times::{Limited, Times};
 use bytes::Bytes;
 use std::alloc::{AllocError, Global};
-use std::marker::Brand;
 use std::net::Net;
 use std::time::{Clock, Duration};
-use zber::Seq;
 use zoom_io::Watch;
 use zoom_pool::{Meta, MetaSettings, Question};
 
@@ -53,83 +52,33 @@ pub fn ask_at_once<N: Net + Clock, V: Watch>(
     let sockets = TcpSockets::new(alloc, net)?;
     let begun = sockets.now().unwrap_or(Duration::ZERO);
     let network = Network::new(alloc, sockets);
-    ask_at_once_over(
-        alloc, &network, questions, settings, addresses, limits, begun, watch,
+    ask_over(
+        alloc, &network, questions, settings, addresses, limits, begun, true, watch,
     )
 }
 
-/// Does what `ask_at_once` does, over the sockets of a network, if everything began at `begun`. Each connection is
-/// talked with over a link of its own: its socket was opened for one of the addresses that were found for its name, and
-/// is connected. The octets that came over it first are those that were read.
-///
-/// A connection is stopped for `Connect` only if connecting to each address of its name failed, if its time was over,
-/// or if the clock failed (`IsUnreached`). It is stopped for `Read` only if its host was silent for as long as the
-/// patience, if the total was over, or if the clock or a socket failed (`ReadFault`). A host is silent while the octets
-/// that are left to come stay the same. Times are those that the clock gave. A socket that no limit ends is given up
-/// after 1,000,000,000 looks.
-///
-/// It waits no longer than the total from `begun` on. It waits for hosts to connect no longer than the patience from
-/// when connecting began (`IsWaitWithin`), and for octets of a host no longer than the patience from when they came
-/// last, or when it was first polled (`IsListenWithin`). Sockets may forbid all other waits (`waits`, `listens`).
-pub fn ask_at_once_over<S: Sockets, V: Watch>(
+/// Begins to connect to all hosts that have an address, and talks with each as soon as it is connected.
+pub(crate) fn talk_at_once<S: Sockets, K: Limited, V: Watch>(
     alloc: Global,
     network: &Network<S>,
-    questions: Vec<Question>,
-    settings: MetaSettings,
+    meta: Meta,
     addresses: &[Option<Bytes>],
-    limits: Limits,
-    begun: Duration,
+    times: &Times<S, K>,
     watch: &mut V,
 ) -> Result<Meta, AllocError>
-    requires some { length questions.items < 2 ^ 32 }
-    requires askable { AreAskable questions.items }
-    requires fit { AreFit settings }
-    requires equal { length addresses.now ≡ length questions.items }
-    requires waits { AllowsWaits S.facts S.MayWait limits begun }
-    requires listens { AllowsListening S.facts S.MayListen limits begun }
-    ensures asked { IfOk result (λ meta. IsAskedOver
-        (λ c. claims_of S.facts limits begun true (halves_at addresses.now c))
-        questions.items settings true (is_present addresses.now) meta) }
-{
-    ask_at_once_since::<S, Brand, V>(
-        alloc, network, questions, settings, addresses, limits, begun, watch,
-    )
-}
-
-/// Does what `ask_at_once_over` does, within limits that contracts name.
-fn ask_at_once_since<S: Sockets, K: Limited, V: Watch>(
-    alloc: Global,
-    network: &Network<S>,
-    questions: Vec<Question>,
-    settings: MetaSettings,
-    addresses: &[Option<Bytes>],
-    limits: Limits,
-    begun: Duration,
-    watch: &mut V,
-) -> Result<Meta, AllocError>
-    // the times
-    requires limits { limits ≡ K.limits }
-    requires begun { begun ≡ K.begun }
     requires mode { K.at_once ≡ true }
-    requires waits { AllowsWaits S.facts S.MayWait K.limits K.begun }
-    requires listens { AllowsListening S.facts S.MayListen K.limits K.begun }
-    // the questions
-    requires some { length questions.items < 2 ^ 32 }
-    requires askable { AreAskable questions.items }
-    requires fit { AreFit settings }
-    requires equal { length addresses.now ≡ length questions.items }
-    ensures asked { IfOk result (λ meta. IsAskedOver
-        (λ c. claims_of S.facts K.limits K.begun K.at_once (halves_at addresses.now c))
-        questions.items settings true (is_present addresses.now) meta) }
+    requires few { length meta.pool.connections < 2 ^ 32 }
+    requires equal { length addresses.now ≡ length meta.pool.connections }
+    ensures { IfOk result (AfterAsk (λ c. claims_of S.facts K.limits K.begun K.at_once (halves_at addresses.now c))
+        (length addresses.now) true (is_present addresses.now) meta) }
 {
-    let times = Times::<S, K>::new(limits, begun);
-    let mut meta = Meta::new(alloc, Seq::from_vec(questions), settings)?;
-    let attempts = begin_attempts(alloc, network, addresses, &times)?;
+    let mut asked = meta;
+    let attempts = begin_attempts(alloc, network, addresses, times)?;
     let mut talks = talks_of(alloc, attempts)?;
-    let talked = talk_with_all(alloc, &mut meta, &mut talks, watch);
+    let talked = talk_with_all(alloc, &mut asked, &mut talks, watch);
     drop(talks);
     talked?;
-    Ok(meta)
+    Ok(asked)
 }
 
 /// Asking one host over sockets.

@@ -2,7 +2,7 @@
 ghost use Rattle.std.specs.Prelude.{◌≡◌, ◌<◌, ℕ, List, Some, true, length, IfOk};
 ghost use Rattle.std.specs.Option.{ForNone};
 ghost use Rattle.zoom_tcp.specs.HostLinks.{IsTried, IsHostLink};
-ghost use Rattle.zoom_tcp.specs.Silence.{IsSeen, IsWaitStart};
+ghost use Rattle.zoom_tcp.specs.Silence.{IsSeen, IsStart, IsWaitStart};
 ghost use Rattle.zoom_tcp.specs.Connecting.{AreAddressesOf, IsFailed, IsUnreached, IsTrying, IsAttempt, AttemptStep, IsSettled, HasEnded, IsWaited, IsLinkFor, claims_of};
 
 use crate::host_link::{HostLink, HostSink, HostSource};
@@ -29,7 +29,7 @@ pub(crate) struct Attempt<'a, S: Sockets, K: Limited> {
     pub(crate) tries: Tries<S::Address, S::Socket, Deadline<S>>,
     /// The count of the network's looks when this was last looked at.
     looked: u64,
-    ghost start: { ∥ IsSeen S.facts tries.started ∥₁ },
+    ghost start: { ∥ IsStart S.facts tries.started ∥₁ },
 }
 
 /// What an attempt has tried.
@@ -68,7 +68,7 @@ impl<'a, S: Sockets, K: Limited> Attempt<'a, S, K> {
         times: Times<S, K>,
         started: Duration,
     ) -> Result<Attempt<'a, S, K>, AllocError>
-        requires { IsSeen S.facts started }
+        requires { IsStart S.facts started }
         ensures { IfOk result (λ a. (name : List ℕ) → AreAddressesOf S.facts name addresses.items
             → IsAttempt S.facts K.limits K.begun K.at_once name a.tries) }
     {

@@ -4,7 +4,7 @@ ghost use Rattle.std.specs.Option.{ForNone};
 ghost use Rattle.zoom_io.specs.TalksAmong.{halves_at};
 ghost use Rattle.zoom_tcp.specs.Asking.{is_present};
 ghost use Rattle.zoom_tcp.specs.Connecting.{AreAddressesOf, IsAttempt, HasEnded, IsWaited, IsFitIf, AttemptStepIf, AreAttempts, AttemptsStep, IsEntryIf, AreEntries};
-ghost use Rattle.zoom_tcp.specs.Silence.{IsSeen};
+ghost use Rattle.zoom_tcp.specs.Silence.{IsSeen, IsStart};
 
 use crate::attempt::Attempt;
 use crate::network::{Network, Poller};
@@ -32,7 +32,7 @@ pub(crate) fn begin_attempts<'a, S: Sockets, K: Limited>(
         (λ name a. IsAttempt S.facts K.limits K.begun K.at_once name a.tries)) }
 {
     let found = find_all(alloc, &network.sockets, addresses)?;
-    let started = network.time_or(Duration::MAX);
+    let started = network.started();
     let mut poller = network.take_poller();
     let attempts = begin_all(alloc, network, &mut poller, found, times, started);
     network.put_poller(poller);
@@ -92,7 +92,7 @@ fn begin_all<'a, S: Sockets, K: Limited>(
     times: &Times<S, K>,
     started: Duration,
 ) -> Result<Vec<Option<Attempt<'a, S, K>>>, AllocError>
-    requires { IsSeen S.facts started }
+    requires { IsStart S.facts started }
     ensures size { IfOk result (λ attempts. length attempts.items ≡ length found.items) }
     ensures named { IfOk result (λ attempts. (c : ℕ) → is_present attempts.items c ≡ is_present found.items c) }
     ensures own { IfOk result (λ attempts. (names : ℕ → Option (List ℕ)) → AreAttempts names found.items
@@ -115,7 +115,7 @@ fn begin_if<'a, S: Sockets, K: Limited>(
     times: &Times<S, K>,
     started: Duration,
 ) -> Result<Option<Attempt<'a, S, K>>, AllocError>
-    requires { IsSeen S.facts started }
+    requires { IsStart S.facts started }
     ensures named { IfOk result (λ attempt. is_some attempt ≡ is_some addresses) }
     ensures own { IfOk result (λ attempt. (name : List ℕ) → IsFitIf (Some name) addresses
         (λ own found. AreAddressesOf S.facts own found.items) → IsFitIf (Some name) attempt

@@ -1,11 +1,10 @@
 //! A link to a host: a source and a sink over one socket, with time limits.
-ghost use Rattle.std.specs.Prelude.{◌≡◌, ◌<◌, ℕ, List, Option, None, Some, length, IfOk, IfSome, OnOk, OnErr, IsErr};
+ghost use Rattle.std.specs.Prelude.{◌≡◌, ◌<◌, ℕ, List, Option, None, Some, length, IfOk, IfSome, OnErr, IsErr};
 ghost use Rattle.std.specs.Option.{ForSome, ForNone};
 ghost use Rattle.std.specs.Io.{ReadsAtMost, WritesAtMost};
-ghost use Rattle.zoom_io.specs.Devices.{IsBoundedPoll, IsCounted, AfterRead, AfterPoll, polls_after};
+ghost use Rattle.zoom_io.specs.Devices.{IsBoundedPoll, IsCounted, AfterRead, AfterPoll, next_count, polls_after};
 ghost use Rattle.zoom_tcp.specs.HostLinks.{IsPolled};
-ghost use Rattle.zoom_tcp.specs.Silence.{IsWithin, IsInTime, IfNotYet, IsKnownLeft, HasReadFault, most_looks};
-ghost use Rattle.zoom_tcp.specs.SocketFacts.{AtTime};
+ghost use Rattle.zoom_tcp.specs.Silence.{IsWithin, IsInTime, IfNotYet, IsKnownLeft, IsRestOf, HasReadFault, most_looks};
 
 use crate::network::{Network, Poller};
 use crate::sockets::{Sockets, Transfer};
@@ -32,7 +31,7 @@ struct TimedSocket<'a, S: Sockets, K: Limited> {
 pub struct HostSource<'a, S: Sockets, K: Limited> {
     timed: TimedSocket<'a, S, K>,
     cursor: S::Cursor,
-    /// When octets came last, or when it was first polled.
+    /// When octets came last, or when it was first listened to.
     came_at: Option<Duration>,
     /// The count of the network's looks when it was last polled.
     looked: u64,
@@ -40,6 +39,9 @@ pub struct HostSource<'a, S: Sockets, K: Limited> {
     polls: u64,
     ghost unread: { ForNone came_at (S.octets_left timed.socket.value cursor ≡ S.facts.octets timed.socket.value) },
     ghost left: { ForSome came_at (IsKnownLeft S.facts timed.socket.value (S.octets_left timed.socket.value cursor)) },
+    ghost rest: { IsRestOf S.facts timed.socket.value (S.octets_left timed.socket.value cursor) },
+    ghost reads: { ForSome (S.idle_at cursor) (λ time. failures ≡ 0
+        → ∥ S.MayReadOn timed.socket.value (S.octets_left timed.socket.value cursor) time ∥₁) },
     ghost fault: { 0 < failures → HasReadFault S.facts K.limits K.begun (S.octets_left timed.socket.value cursor) },
 }
 
@@ -80,7 +82,8 @@ impl<'a, S: Sockets, K: Limited> TimedSocket<'a, S, K> {
     /// A link over this socket, of which nothing was read, and a second handle of it. Neither half has a failed call
     /// yet.
     fn link(self, cursor: S::Cursor, other: Rc<S::Socket>) -> HostLink<'a, S, K>
-        requires { S.octets_left self.socket.value cursor ≡ S.facts.octets self.socket.value }
+        requires unread { S.octets_left self.socket.value cursor ≡ S.facts.octets self.socket.value }
+        requires fresh { S.idle_at cursor ≡ None }
         ensures sound { (result.source.failures ≡ 0) × (result.sink.failures ≡ 0) }
         ensures polls { result.source.polls ≡ 0 }
         ensures socket { result.source.timed.socket.value ≡ self.entry.socket.value }
@@ -161,29 +164,38 @@ impl<'a, S: Sockets, K: Limited> HostSource<'a, S, K> {
             }
             Err(error) => {
                 self.polls = self.polls.saturating_add(1);
-                self.failures = self.failures.saturating_add(1);
                 Err(error)
             }
         }
     }
 
-    /// Does what `receive` does, and counts nothing.
+    /// Counts a failed call.
+    fn fail(&mut self) -> Failed
+        requires { HasReadFault S.facts K.limits K.begun (S.octets_left self.old.timed.socket.value self.old.cursor) }
+        ensures failures { self.new.failures ≡ next_count self.old.failures }
+        ensures polls { self.new.polls ≡ self.old.polls }
+        ensures socket { self.new.timed ≡ self.old.timed }
+        ensures cursor { self.new.cursor ≡ self.old.cursor }
+    {
+        self.failures = self.failures.saturating_add(1);
+        Failed
+    }
+
+    /// Does what `receive` does, and counts no poll.
     fn look(&mut self, piece: &mut [u8], wait: bool) -> Result<Option<usize>, Failed>
         // the octets
         ensures bound { IsBoundedPoll result piece.new }
         ensures octets { IsPolled (S.octets_left self.old.timed.socket.value self.old.cursor)
             (S.octets_left self.new.timed.socket.value self.new.cursor) result piece.new }
         // the counts
-        ensures failures { self.new.failures ≡ self.old.failures }
+        ensures count { IsCounted self.old.failures self.new.failures result }
         ensures polls { self.new.polls ≡ self.old.polls }
-        // after a failure, if it fails, and if none have come yet
+        // after a failure, and if none have come yet
         ensures stays { 0 < self.old.failures → IsErr result }
-        ensures fault { OnErr result (HasReadFault S.facts K.limits K.begun
-            (S.octets_left self.new.timed.socket.value self.new.cursor)) }
         ensures early { IfNotYet result (IsInTime S.facts.IsMoment K.limits K.begun self.new.came_at) }
     {
         if self.failures > 0 {
-            return Err(Failed);
+            return Err(self.fail());
         }
         let network = self.timed.network;
         let mut poller = network.take_poller();
@@ -205,27 +217,26 @@ impl<'a, S: Sockets, K: Limited> HostSource<'a, S, K> {
         ensures octets { IsPolled (S.octets_left self.old.timed.socket.value self.old.cursor)
             (S.octets_left self.new.timed.socket.value self.new.cursor) result piece.new }
         // the counts
-        ensures failures { self.new.failures ≡ self.old.failures }
+        ensures count { IsCounted self.old.failures self.new.failures result }
         ensures polls { self.new.polls ≡ self.old.polls }
-        // if it fails, and if none have come yet
-        ensures fault { OnErr result (HasReadFault S.facts K.limits K.begun
-            (S.octets_left self.new.timed.socket.value self.new.cursor)) }
+        // if none have come yet
         ensures early { IfNotYet result (IsInTime S.facts.IsMoment K.limits K.begun self.new.came_at) }
     {
         let network = self.timed.network;
-        let now = self.timed.now()?;
+        let now = match self.timed.now() {
+            Ok(now) => now,
+            Err(_) => return Err(self.fail()),
+        };
         let came = self.begin(now);
         self.looked = self.look_around(poller, came, now, wait);
         match poller.flush(&network.sockets, self.timed.token, &self.timed.socket) {
-            Ok(()) => {}
-            Err(_) => return Err(Failed),
+            Ok(()) => self.read_in_time(poller, piece, came),
+            Err(_) => Err(self.fail()),
         }
-        self.read_in_time(poller, piece, came)
     }
 
-    /// When octets came last. If it was not polled yet, notes that it is now.
+    /// When octets came last. If none came yet, when its socket was first listened to, or now if the clock fails.
     fn begin(&mut self, now: Duration) -> Duration
-        requires { S.facts.IsMoment now }
         ensures came { self.new.came_at ≡ Some result }
         ensures cursor { self.new.cursor ≡ self.old.cursor }
         ensures failures { self.new.failures ≡ self.old.failures }
@@ -235,8 +246,10 @@ impl<'a, S: Sockets, K: Limited> HostSource<'a, S, K> {
         match self.came_at {
             Some(came) => came,
             None => {
-                self.came_at = Some(now);
-                now
+                let sockets = &self.timed.network.sockets;
+                let came = sockets.listened_from(&self.timed.socket).unwrap_or(now);
+                self.came_at = Some(came);
+                came
             }
         }
     }
@@ -256,15 +269,16 @@ impl<'a, S: Sockets, K: Limited> HostSource<'a, S, K> {
         ensures octets { IsPolled (S.octets_left self.old.timed.socket.value self.old.cursor)
             (S.octets_left self.new.timed.socket.value self.new.cursor) result piece.new }
         // the counts
-        ensures failures { self.new.failures ≡ self.old.failures }
+        ensures count { IsCounted self.old.failures self.new.failures result }
         ensures polls { self.new.polls ≡ self.old.polls }
-        // if it fails, and if none have come yet
-        ensures fault { OnErr result (HasReadFault S.facts K.limits K.begun
-            (S.octets_left self.new.timed.socket.value self.new.cursor)) }
+        // if none have come yet
         ensures early { IfNotYet result (IsInTime S.facts.IsMoment K.limits K.begun self.new.came_at) }
     {
         let network = self.timed.network;
-        let now = self.timed.now()?;
+        let now = match self.timed.now() {
+            Ok(now) => now,
+            Err(_) => return Err(self.fail()),
+        };
         let is_over = self.timed.times.is_patience_over(came, now);
         if !is_over && !poller.ready_of(self.timed.token).readable {
             poller.note_deadline(self.deadline(came));
@@ -283,10 +297,17 @@ impl<'a, S: Sockets, K: Limited> HostSource<'a, S, K> {
                 Ok(Some(count))
             }
             Transfer::NotYet => {
-                self.await_more(poller, came, received.at)?;
-                Ok(None)
+                if self.timed.times.is_early(came, received.at) {
+                    poller.note_deadline(self.deadline(came));
+                    return Ok(None);
+                }
+                self.failures = self.failures.saturating_add(1);
+                Err(Failed)
             }
-            Transfer::Failure => Err(Failed),
+            Transfer::Failure => {
+                self.failures = self.failures.saturating_add(1);
+                Err(Failed)
+            }
         }
     }
 
@@ -308,35 +329,6 @@ impl<'a, S: Sockets, K: Limited> HostSource<'a, S, K> {
             poller.look_now(sockets);
         }
         poller.looks
-    }
-
-    /// Notes by when octets have to come, of which none had come at this time. Fails if that time is over.
-    fn await_more(
-        &self,
-        poller: &mut Poller,
-        came: Duration,
-        at: Option<Duration>,
-    ) -> Result<(), Failed>
-        requires came { self.now.came_at ≡ Some came }
-        requires seen { IfSome at S.facts.IsMoment }
-        requires idle { AtTime S.facts.HasNoClock (λ time. S.facts.IsIdleAt self.now.timed.socket.value time
-            (S.octets_left self.now.timed.socket.value self.now.cursor)) at }
-        ensures early { OnOk result (IsInTime S.facts.IsMoment K.limits K.begun self.now.came_at) }
-        ensures fault { OnErr result (HasReadFault S.facts K.limits K.begun
-            (S.octets_left self.now.timed.socket.value self.now.cursor)) }
-    {
-        let Some(at) = at else {
-            return Err(Failed);
-        };
-        let times = &self.timed.times;
-        if times.is_patience_over(came, at) {
-            return Err(Failed);
-        }
-        if times.is_total_over(at) {
-            return Err(Failed);
-        }
-        poller.note_deadline(self.deadline(came));
-        Ok(())
     }
 
     /// The time by which octets have to come. It may be waited for them until then.
@@ -365,8 +357,7 @@ impl<'a, S: Sockets, K: Limited> HostSource<'a, S, K> {
         ensures stays { 0 < self.old.failures → IsErr result }
     {
         if self.failures > 0 {
-            self.failures = self.failures.saturating_add(1);
-            return Err(Failed);
+            return Err(self.fail());
         }
         let sockets = &self.timed.network.sockets;
         let socket: &S::Socket = &self.timed.socket;

@@ -1,6 +1,7 @@
 //! Asks catalogues over TCP, side by side, and serves catalogues over TCP, with time limits.
 #![tactic(auto)]
 
+mod asking;
 mod at_once;
 mod attempt;
 mod clients;
@@ -18,9 +19,10 @@ mod sockets;
 mod tcp_sockets;
 mod times;
 
-pub use at_once::{ask_at_once, ask_at_once_over};
+pub use asking::ask_over;
+pub use at_once::ask_at_once;
 pub use clients::{Arrival, Clients, TcpClients};
-pub use in_order::{ask, ask_over};
+pub use in_order::ask;
 pub use limits::Limits;
 pub use link::TcpLink;
 pub use loopback::run_loopback;

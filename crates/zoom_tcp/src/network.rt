@@ -1,8 +1,9 @@
 //! The sockets of all links, what each is ready for, and what it has not sent yet.
 ghost use Rattle.std.specs.Prelude.{◌≡◌, ◌<◌, length, IfOk, OnErr};
+ghost use Rattle.std.specs.Option.{ForSome};
 ghost use Rattle.std.specs.Io.{WritesAtMost};
-ghost use Rattle.zoom_tcp.specs.HostLinks.{IsBoundedTransfer, IsBrokenIf, AfterLook, AfterReadFrom, AfterReceive};
-ghost use Rattle.zoom_tcp.specs.Silence.{IsSeen};
+ghost use Rattle.zoom_tcp.specs.HostLinks.{IsBoundedTransfer, IsBrokenIf, AfterLook, AfterReadFrom, AfterReceive, IsIdleNoted};
+ghost use Rattle.zoom_tcp.specs.Silence.{IsSeen, IsStart};
 ghost use Rattle.zoom_tcp.specs.SocketFacts.{IsAllowed};
 
 use crate::sockets::{ConnectProgress, Readiness, Received, Sockets, Transfer};
@@ -82,6 +83,16 @@ impl<S: Sockets> Network<S> {
         match self.sockets.now() {
             Some(now) => now,
             None => other,
+        }
+    }
+
+    /// When connecting to hosts began, or another time if the clock fails.
+    pub(crate) fn started(&self) -> Duration
+        ensures { IsStart S.facts result }
+    {
+        match self.sockets.connecting_from() {
+            Some(started) => started,
+            None => Duration::MAX,
         }
     }
 }
@@ -231,10 +242,13 @@ impl Poller {
         cursor: &mut S::Cursor,
         piece: &mut [u8],
     ) -> Received
+        requires { ForSome (S.idle_at cursor.old) (λ time.
+            ∥ S.MayReadOn socket.now (S.octets_left socket.now cursor.old) time ∥₁) }
         ensures bound { IsBoundedTransfer result.moved (length piece.new) }
         ensures octets { AfterReadFrom (S.octets_left socket.now cursor.old) (S.octets_left socket.now cursor.new)
             result.moved piece.new }
         ensures received { AfterReceive S.facts socket.now (S.octets_left socket.now cursor.new) result }
+        ensures idle { IsIdleNoted (S.idle_at cursor.new) result }
     {
         let ready = self.ready_of(token);
         let received = sockets.read(socket, cursor, piece);

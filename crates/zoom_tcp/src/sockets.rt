@@ -1,7 +1,8 @@
 //! The sockets that links stand on, and a way to wait until one of them is ready.
-ghost use Rattle.std.specs.Prelude.{◌≡◌, ℕ, List, length, Option, IfOk, IfSome, IfNone};
-ghost use Rattle.zoom_tcp.specs.HostLinks.{IsBoundedTransfer, IsBrokenIf, AfterProgress, AfterReadFrom, AfterReceive};
-ghost use Rattle.zoom_tcp.specs.SocketFacts.{SocketFacts, IsAllowed};
+ghost use Rattle.std.specs.Prelude.{◌≡◌, ℕ, List, length, Option, None, IfOk, IfSome, IfNone};
+ghost use Rattle.std.specs.Option.{ForSome};
+ghost use Rattle.zoom_tcp.specs.HostLinks.{IsBoundedTransfer, IsBrokenIf, AfterProgress, AfterReadFrom, AfterReceive, IsIdleNoted};
+ghost use Rattle.zoom_tcp.specs.SocketFacts.{SocketFacts, IsTold, IsAllowed};
 
 use std::alloc::{AllocError, Global};
 use std::time::Duration;
@@ -53,8 +54,8 @@ pub enum ConnectProgress {
 /// Each change of a socket is reported once. The next change is reported after a call that moved nothing yet, and
 /// after a read that filled its room only in part.
 ///
-/// The contracts of `ask_over` and `ask_at_once_over` speak of what the calls here gave, by the ghost members. Sockets
-/// in memory can tell exactly what they are; those of a system tell what their values say.
+/// The contract of `ask_over` speaks of what the calls here gave, by the ghost members. Sockets in memory can tell
+/// exactly what they are; those of a system tell what their values say.
 pub trait Sockets {
     ghost use Rattle.std.specs.declared.time.Duration.{Duration};
 
@@ -73,10 +74,18 @@ pub trait Sockets {
     /// The octets that come on a socket and were not read yet, in order, if they are known.
     ghost octets_left: { Self.Socket → Self.Cursor → Option (List ℕ) };
 
+    /// When the last read gave nothing, if it did and it is known.
+    ghost idle_at: { Self.Cursor → Option Duration };
+
     /// The time since a fixed one, or `None` if the clock fails.
     fn now(&self) -> Option<Duration>
         ensures seen { IfSome result facts.IsMoment }
         ensures fails { IfNone result facts.HasNoClock };
+
+    /// When connecting to hosts began: the time of the first such call. Each call gives the same time, or `None` if the
+    /// clock fails.
+    fn connecting_from(&self) -> Option<Duration>
+        ensures { IsTold facts.HasNoClock facts.IsMoment facts.IsConnectingFrom result };
 
     /// The addresses that `host:port` stands for, in the order in which to try them. There are none if it is not
     /// known.
@@ -93,7 +102,13 @@ pub trait Sockets {
 
     /// The cursor of a socket of which no octets were read yet.
     fn first(socket: &Self::Socket) -> Self::Cursor
-        ensures { octets_left socket.now result ≡ facts.octets socket.now };
+        ensures octets { octets_left socket.now result ≡ facts.octets socket.now }
+        ensures idle { idle_at result ≡ None };
+
+    /// When this socket was first listened to: the time of the first such call for it. Each call gives the same time,
+    /// or `None` if the clock fails.
+    fn listened_from(&self, socket: &Self::Socket) -> Option<Duration>
+        ensures { IsTold facts.HasNoClock facts.IsMoment (facts.IsListenedFrom socket.now) result };
 
     /// It may be waited until this time for hosts to connect. Sockets in memory can forbid other waits; those of a
     /// system allow each.
@@ -118,12 +133,18 @@ pub trait Sockets {
     ) -> bool
         requires { IsAllowed (MayListen socket.now (octets_left socket.now cursor.now)) until most };
 
+    /// A socket may be read on after a read that gave nothing at this time, since none of these octets had come.
+    ghost MayReadOn: { Self.Socket → Option (List ℕ) → Duration → Type 0 };
+
     /// Reads octets into the front of `piece`, from where the last read ended. It does not wait.
     fn read(&self, socket: &Self::Socket, cursor: &mut Self::Cursor, piece: &mut [u8]) -> Received
+        requires { ForSome (idle_at cursor.old) (λ time.
+            ∥ MayReadOn socket.now (octets_left socket.now cursor.old) time ∥₁) }
         ensures bound { IsBoundedTransfer result.moved (length piece.new) }
         ensures octets { AfterReadFrom (octets_left socket.now cursor.old) (octets_left socket.now cursor.new)
             result.moved piece.new }
-        ensures received { AfterReceive facts socket.now (octets_left socket.now cursor.new) result };
+        ensures received { AfterReceive facts socket.now (octets_left socket.now cursor.new) result }
+        ensures idle { IsIdleNoted (idle_at cursor.new) result };
 
     /// Writes a front of `piece`.
     fn write(&self, socket: &Self::Socket, piece: &[u8]) -> Transfer

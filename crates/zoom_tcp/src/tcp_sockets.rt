@@ -1,6 +1,7 @@
 //! Sockets over TCP, all watched by one poll of the system.
 ghost use Rattle.std.specs.Prelude.{◌≤◌, length, None, IfOk};
 ghost use Rattle.zoom_tcp.specs.HostLinks.{IsBoundedTransfer};
+ghost use Rattle.zoom_tcp.specs.SocketFacts.{any_facts};
 
 use crate::sockets::{ConnectProgress, Readiness, Received, Sockets, Transfer};
 use libc::net as c;
@@ -8,7 +9,7 @@ use mio::event::Event;
 use mio::net::TcpStream;
 use mio::{Events, Interest, Poll, Token};
 use std::alloc::{AllocError, Global};
-use std::cell::RefCell;
+use std::cell::{Cell, RefCell};
 use std::io;
 use std::io::{ErrorKind, Read, Write};
 use std::net::{Net, SocketAddr, ToSocketAddrs};
@@ -18,11 +19,21 @@ use std::time::{Clock, Duration, Instant};
 /// The most sockets that one wait reports. The next wait reports the others.
 const MOST_EVENTS: usize = 256;
 
+/// A socket over TCP.
+#[derive(Drop)]
+pub struct TcpSocket {
+    stream: TcpStream,
+    /// When it was first listened to.
+    listened: Cell<Option<Duration>>,
+}
+
 /// Sockets over TCP, all watched by one poll of the system.
 #[derive(Drop)]
 pub struct TcpSockets<'a, N> {
     net: &'a N,
     origin: Option<Instant>,
+    /// When connecting began.
+    connecting: Cell<Option<Duration>>,
     /// Each call borrows these for itself alone.
     poll: RefCell<Option<Poll>>,
     events: RefCell<Events>,
@@ -36,9 +47,17 @@ impl<'a, N: Net + Clock> TcpSockets<'a, N> {
         Ok(TcpSockets {
             net,
             origin: Instant::now(net).ok(),
+            connecting: Cell::new(None),
             poll: RefCell::new(Poll::new(net).ok()),
             events: RefCell::new(Events::with_capacity(alloc, MOST_EVENTS)?),
         })
+    }
+
+    /// The time that was noted first. If none was noted yet, notes what time it is.
+    fn first_time(&self, noted: &Cell<Option<Duration>>) -> Option<Duration> {
+        let first = noted.get().or(self.now());
+        noted.set(first);
+        first
     }
 
     /// How long it is until this time. Nothing is left if the clock fails.
@@ -125,30 +144,21 @@ fn found<N: Net>(alloc: Global, net: &N, text: &str) -> Result<Vec<SocketAddr>, 
 impl<'a, N: Net + Clock> Sockets for TcpSockets<'a, N> {
     type Address = SocketAddr;
 
-    type Socket = TcpStream;
+    type Socket = TcpSocket;
 
     type Cursor = ();
 
-    ghost facts = { record {
-      IsMoment = λ time. Unit {0};
-      HasNoClock = Unit {0};
-      AreFound = λ name addresses. Unit {0};
-      IsOpening = λ address socket. Unit {0};
-      IsConnected = λ socket. Unit {0};
-      IsRefused = λ socket. Unit {0};
-      IsPending = λ socket. Unit {0};
-      IsBroken = λ socket. Unit {0};
-      IsHeardAt = λ socket time left. Unit {0};
-      IsIdleAt = λ socket time left. Unit {0};
-      IsGivenUp = λ socket looks. Unit {0};
-      octets = λ socket. None;
-    } };
+    ghost facts = { any_facts };
 
     ghost octets_left = { λ socket cursor. None };
+
+    ghost idle_at = { λ cursor. None };
 
     ghost MayWait = { λ until. Unit {0} };
 
     ghost MayListen = { λ socket left until. Unit {0} };
+
+    ghost MayReadOn = { λ socket left time. Unit {0} };
 
     fn now(&self) -> Option<Duration> {
         match &self.origin {
@@ -157,34 +167,46 @@ impl<'a, N: Net + Clock> Sockets for TcpSockets<'a, N> {
         }
     }
 
+    fn connecting_from(&self) -> Option<Duration> {
+        self.first_time(&self.connecting)
+    }
+
     fn resolve(&self, alloc: Global, text: &str) -> Result<Vec<SocketAddr>, AllocError> {
         found(alloc, self.net, text)
     }
 
-    fn connect(&self, token: usize, address: &SocketAddr) -> Option<TcpStream> {
+    fn connect(&self, token: usize, address: &SocketAddr) -> Option<TcpSocket> {
         let Ok(poll) = self.poll.try_borrow() else {
             return None;
         };
-        match &*poll {
-            Some(poll) => begin(self.net, poll, token, *address).ok(),
-            None => None,
-        }
+        let stream = match &*poll {
+            Some(poll) => begin(self.net, poll, token, *address).ok()?,
+            None => return None,
+        };
+        Some(TcpSocket {
+            stream,
+            listened: Cell::new(None),
+        })
     }
 
-    fn progress(&self, socket: &TcpStream) -> ConnectProgress {
-        match socket.take_error() {
+    fn progress(&self, socket: &TcpSocket) -> ConnectProgress {
+        match socket.stream.take_error() {
             Ok(None) => {}
             Ok(Some(_)) => return ConnectProgress::Refused,
             Err(_) => return ConnectProgress::Refused,
         }
-        match socket.peer_addr() {
+        match socket.stream.peer_addr() {
             Ok(_) => ConnectProgress::Connected,
             Err(error) if error.kind() == ErrorKind::NotConnected => ConnectProgress::Pending,
             Err(_) => ConnectProgress::Refused,
         }
     }
 
-    fn first(_: &TcpStream) {}
+    fn first(_: &TcpSocket) {}
+
+    fn listened_from(&self, socket: &TcpSocket) -> Option<Duration> {
+        self.first_time(&socket.listened)
+    }
 
     fn wait(&self, until: Duration, most: Duration, ready: &mut [Readiness]) -> bool {
         let left = self.left(until).min(most);
@@ -202,7 +224,7 @@ impl<'a, N: Net + Clock> Sockets for TcpSockets<'a, N> {
 
     fn listen(
         &self,
-        _: &TcpStream,
+        _: &TcpSocket,
         _: &(),
         until: Duration,
         most: Duration,
@@ -211,9 +233,9 @@ impl<'a, N: Net + Clock> Sockets for TcpSockets<'a, N> {
         self.wait(until, most, ready)
     }
 
-    fn read(&self, socket: &TcpStream, _: &mut (), piece: &mut [u8]) -> Received {
-        acknowledge(socket.as_raw_fd());
-        let mut stream = socket;
+    fn read(&self, socket: &TcpSocket, _: &mut (), piece: &mut [u8]) -> Received {
+        acknowledge(socket.stream.as_raw_fd());
+        let mut stream = &socket.stream;
         let moved = transfer(stream.read(piece), piece.len());
         Received {
             moved,
@@ -221,10 +243,10 @@ impl<'a, N: Net + Clock> Sockets for TcpSockets<'a, N> {
         }
     }
 
-    fn write(&self, socket: &TcpStream, piece: &[u8]) -> Transfer {
-        let mut stream = socket;
+    fn write(&self, socket: &TcpSocket, piece: &[u8]) -> Transfer {
+        let mut stream = &socket.stream;
         transfer(stream.write(piece), piece.len())
     }
 
-    fn give_up(&self, _: &TcpStream, _: u64) {}
+    fn give_up(&self, _: &TcpSocket, _: u64) {}
 }

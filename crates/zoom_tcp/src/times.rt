@@ -1,7 +1,7 @@
 //! The limits of asking hosts, and when it began, as contracts name them, and until when it may be waited.
 ghost use Rattle.std.specs.Prelude.{◌≡◌, None, true, false, IfSome};
 ghost use Rattle.std.specs.Option.{ForNone};
-ghost use Rattle.zoom_tcp.specs.Silence.{IsWithin, IsOver, IsNoLater, IsTotalOver, IsWaitStart, AllowsWaits, AllowsListening};
+ghost use Rattle.zoom_tcp.specs.Silence.{IsWithin, IsOver, IsNoLater, IsTotalOver, IsWaitStart, AllowsWaits, AllowsListening, AllowsReading, IsEarly, IsLate};
 
 use crate::limits::{Limits, is_over, sooner_of};
 use crate::sockets::Sockets;
@@ -84,6 +84,7 @@ pub(crate) struct Times<S: Sockets, K: Limited> {
     ghost same_begun: { begun ≡ K.begun },
     ghost waits: { AllowsWaits S.facts S.MayWait K.limits K.begun },
     ghost listens: { AllowsListening S.facts S.MayListen K.limits K.begun },
+    ghost reads: { AllowsReading S.facts S.MayReadOn K.limits K.begun },
 }
 
 impl<S: Sockets, K: Limited> Times<S, K> {
@@ -93,6 +94,7 @@ impl<S: Sockets, K: Limited> Times<S, K> {
         requires begun { begun ≡ K.begun }
         requires waits { AllowsWaits S.facts S.MayWait K.limits K.begun }
         requires listens { AllowsListening S.facts S.MayListen K.limits K.begun }
+        requires reads { AllowsReading S.facts S.MayReadOn K.limits K.begun }
     {
         Times {
             limits,
@@ -121,6 +123,17 @@ impl<S: Sockets, K: Limited> Times<S, K> {
         ensures within { result ≡ false → IsWithin since now K.limits.patience }
     {
         is_over(self.limits.patience, since, now)
+    }
+
+    /// Whether no limit was over at this time, if the patience began at `came`. It is not so if the clock failed.
+    pub(crate) fn is_early(&self, came: Duration, at: Option<Duration>) -> bool
+        ensures early { result ≡ true → IsEarly K.limits K.begun came at }
+        ensures late { result ≡ false → IsLate K.limits K.begun came at }
+    {
+        match at {
+            Some(time) => !self.is_patience_over(came, time) && !self.is_total_over(time),
+            None => false,
+        }
     }
 
     /// The end of the time for what began at `since`: the patience, and no more than is left for everything.

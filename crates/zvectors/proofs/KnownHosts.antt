@@ -305,10 +305,10 @@ module _ {Place : Type 0} (places : List Place) (name_of : Place → List ℕ) (
 
     no_fault : (left : KnownOctets) → ReadFault (facts_of places name_of sends) limits begun left → ⊥
     no_fault left (fault_no_clock none) = none
-    no_fault left (broken_socket socket none) = none
-    no_fault left (silent_host socket since now from idle over) = idle
+    no_fault left (broken_socket socket rest none) = none
+    no_fault left (silent_host socket rest since now from idle over) = idle
     no_fault left (fault_total_over now last over) = not_total now last over
-    no_fault left (fault_given_up socket now idle gone) = idle
+    no_fault left (fault_given_up socket rest now idle gone) = idle
 
     -- The address of a socket does not refuse it.
     not_refused : (addresses : List ℕ) (place socket : ℕ)
@@ -353,7 +353,7 @@ module _ {Place : Type 0} (places : List Place) (name_of : Place → List ℕ) (
     unreached_for (Some name) (no_text none) = inl none
     unreached_for (Some name) (all_failed addresses found fails) = inr (all_refuse name addresses found fails)
     unreached_for (Some name) (no_clock none) = absurd none
-    unreached_for (Some name) (no_answer started now first last over) =
+    unreached_for (Some name) (no_answer started now from first last over) =
         absurd (not_over limits.patience started now allowed.0 last over)
     unreached_for (Some name) (total_over now last over) = absurd (not_total now last over)
     unreached_for (Some name) (given_up addresses found socket to left) =

@@ -1,5 +1,6 @@
--- Hosts in memory that send an octet at a time: none of them is silent, and the clock does not pass the end.
-use Rattle.std.proofs.Common.{◌≡◌, ◌∙◌, ◌⊎◌, inl, inr, refl, ap, sym, subst, arith, ℕ, zero, suc, ◌+◌, ◌*◌, ◌<◌, ◌≤◌, Bool, List, [], ◌∷◌, length, drop, Option, Some}
+-- Hosts in memory that send an octet at a time, or nothing: none of the former is silent, and the clock does not pass the
+-- end.
+use Rattle.std.proofs.Common.{◌≡◌, ◌∙◌, ◌⊎◌, inl, inr, refl, ap, sym, subst, arith, ℕ, zero, suc, ◌+◌, ◌*◌, ◌<◌, ◌≤◌, Bool, List, [], ◌∷◌, length, drop, Option, None, Some}
 use Rattle.std.proofs.Math.Logic.{∥∥₁_map}
 use Rattle.std.proofs.lemmas.Bool.{cases_lt}
 use Rattle.std.specs.declared.time.Duration.{Duration}
@@ -7,8 +8,8 @@ use Rattle.std.specs.Duration.{as_nanos}
 use Rattle.zoom.specs.Asking.{KnownOctets, IsAskedOver}
 use Rattle.zoom.specs.Connecting.{claims_of}
 use Rattle.zoom.specs.Limits.{Limits}
-use Rattle.zoom.specs.Silence.{IsOver, IsLeftSince, heard, polled, ReadFault, no_clock, broken_socket, silent_host, total_over, given_up}
-use Rattle.zvectors.specs.Timed.{AreWaitedFor, all_of, IsIdleBy, timed_facts, timed_host}
+use Rattle.zoom.specs.Silence.{IsOver, IsLeftSince, heard, unheard, ReadFault, no_clock, broken_socket, silent_host, total_over, given_up}
+use Rattle.zvectors.specs.Timed.{AreWaitedFor, all_of, IsIdleBy, timed_facts, timed_host, silent_facts}
 use Rattle.zvectors.proofs.KnownHosts.{asked_for}
 
 some_same : {A : Type 0} (x y : A) → Some x ≡ Some y → x ≡ y
@@ -79,7 +80,7 @@ module _ {Host : Type 0} (hosts : List Host) (sends : Host → List ℕ) (gap en
         let come = h.are.come in
         let behind = idle.are.behind in
         not_silent since now h.count idle.count (omega (arith, places, come, behind)) h.by idle.before over
-    never_silent number since now left (polled seen all) idle over =
+    never_silent number since now left (unheard from seen all) idle over =
         let same : all_of hosts sends number ≡ idle.octets =
         some_same (all_of hosts sends number) idle.octets (sym all ∙ idle.known) in
         let places : zero ≡ idle.are.place =
@@ -94,14 +95,14 @@ module _ {Host : Type 0} (hosts : List Host) (sends : Host → List ℕ) (gap en
       (first : as_nanos begun ≡ 0) (limited : limits.total ≡ Some total) (last : as_nanos total ≡ end) where
     at_end : (left : KnownOctets) → ReadFault (timed_facts hosts sends gap end) limits begun left → (time : Duration) × (as_nanos time ≡ end)
     at_end left (no_clock none) = absurd none
-    at_end left (broken_socket socket none) = absurd none
-    at_end left (silent_host socket since now from idle over) =
+    at_end left (broken_socket socket rest none) = absurd none
+    at_end left (silent_host socket rest since now from idle over) =
         absurd (never_silent limits.patience some often socket since now left from idle over)
     at_end left (total_over now moment over) =
         let same : over.0 ≡ total = some_same over.0 total (sym over.1 ∙ limited) in
         let past = subst (λ z. IsOver begun now z) same over.2 in
         (now, omega (arith, moment, past, first, last))
-    at_end left (given_up socket now idle gone) = absurd gone
+    at_end left (given_up socket rest now idle gone) = absurd gone
 
     -- The connections are asked so.
     pub asked_timed : (names : ℕ → Option (List ℕ)) (q : _) (s : _) (at_once : Bool) (chosen : ℕ → Bool) (meta : _)
@@ -115,3 +116,32 @@ module _ {Host : Type 0} (hosts : List Host) (sends : Host → List ℕ) (gap en
           (timed_host end) (chosen c) q s at_once c over.history (λ came own. tt) (λ why. tt)
           (λ left why. ∥∥₁_map why (at_end left)) (over.each c lt);
     }
+
+-- ---- hosts that never send anything
+
+module _ (end : ℕ) (limits : Limits) (begun : Duration) (without : limits.total ≡ None)
+    (patient : as_nanos limits.patience ≡ end) where
+  no_total : (total : Duration) → limits.total ≡ Some total → ⊥
+  no_total total is = let none = sym without ∙ is in absurd cc
+
+  at_patience : (left : KnownOctets) → ReadFault (silent_facts end) limits begun left
+      → (time : Duration) × (as_nanos time ≡ end)
+  at_patience left (no_clock none) = absurd none
+  at_patience left (broken_socket socket rest none) = absurd none
+  at_patience left (silent_host socket rest since now (heard none) idle over) = absurd none
+  at_patience left (silent_host socket rest since now (unheard from seen all) idle over) =
+      (now, omega (arith, from, idle, over, patient))
+  at_patience left (total_over now moment over) = absurd (no_total over.0 over.1)
+  at_patience left (given_up socket rest now idle gone) = absurd gone
+
+  -- The connections are asked so.
+  pub asked_silent : (names : ℕ → Option (List ℕ)) (q : _) (s : _) (at_once : Bool) (chosen : ℕ → Bool) (meta : _)
+      → IsAskedOver (λ c. claims_of (silent_facts end) limits begun at_once (names c)) q s at_once chosen meta
+      → IsAskedOver (λ c. timed_host end) q s at_once chosen meta
+  asked_silent names q s at_once chosen meta over = record {
+    history = over.history;
+    after = over.after;
+    each = λ c lt. asked_for (claims_of (silent_facts end) limits begun at_once (names c)) (timed_host end) (chosen c) q
+        s at_once c over.history (λ came own. tt) (λ why. tt) (λ left why. ∥∥₁_map why (at_patience left))
+        (over.each c lt);
+  }

@@ -50,11 +50,13 @@ module _ {Place : Type 0} (places : List Place) (name_of : Place → List ℕ) (
   facts_of = record {
     IsMoment = λ time. as_nanos time ≡ 0;
     HasNoClock = ⊥;
+    IsConnectingFrom = λ time. as_nanos time ≡ 0;
     AreFound = AreAllNamed;
     IsOpening = IsSocketOf;
     IsConnected = IsTaken;
     IsRefused = λ socket. is_some (sent_from socket) ≡ false;
     IsPending = λ socket. ⊥;
+    IsListenedFrom = λ socket time. as_nanos time ≡ 0;
     IsBroken = λ socket. ⊥;
     IsHeardAt = λ socket time left. as_nanos time ≡ 0;
     IsIdleAt = λ socket time left. ⊥;

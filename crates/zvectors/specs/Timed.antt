@@ -1,5 +1,5 @@
--- Hosts in memory that send an octet at a time, under a clock that only waiting moves.
-use Rattle.std.specs.Prelude.{◌≡◌, ℕ, ◌+◌, ◌*◌, ◌<◌, ◌≤◌, List, [], length, drop, slice_get, Option, None, Some}
+-- Hosts in memory that send an octet at a time, or nothing, under a clock that only waiting moves.
+use Rattle.std.specs.Prelude.{◌≡◌, ℕ, ◌+◌, ◌*◌, ◌<◌, ◌≤◌, List, [], ◌∷◌, length, drop, slice_get, Option, None, Some}
 use Rattle.std.specs.declared.time.Duration.{Duration}
 use Rattle.std.specs.Duration.{as_nanos}
 use Rattle.zoom.specs.Asking.{KnownOctets, HostClaims}
@@ -51,11 +51,13 @@ module _ {Host : Type 0} (hosts : List Host) (sends : Host → List ℕ) (gap en
   timed_facts = record {
     IsMoment = λ time. as_nanos time ≤ end;
     HasNoClock = ⊥;
+    IsConnectingFrom = λ time. as_nanos time ≡ 0;
     AreFound = λ name addresses. Unit {0};
     IsOpening = λ address socket. socket ≡ Some address;
     IsConnected = λ socket. Unit {0};
     IsRefused = λ socket. ⊥;
     IsPending = λ socket. ⊥;
+    IsListenedFrom = λ socket time. as_nanos time ≡ 0;
     IsBroken = λ socket. ⊥;
     IsHeardAt = IsHeardBy;
     IsIdleAt = IsIdleBy;
@@ -63,11 +65,35 @@ module _ {Host : Type 0} (hosts : List Host) (sends : Host → List ℕ) (gap en
     octets = λ socket. Some (all_of hosts sends socket);
   }
 
--- what is said of asking a host of which an octet comes at least as often as the patience: a read fails only if the
--- clock has come to the end
+-- what is said of asking a host: a read fails only if the clock has come to the end
 abbrev pub timed_host : ℕ → HostClaims
 timed_host end = record {
   IsOwn = λ came. Unit {0};
   IsUnreached = Unit {0};
   IsFaulty = λ left. ∥ ((time : Duration) × (as_nanos time ≡ end)) ∥₁;
+}
+
+-- ---- hosts that never send anything
+
+-- what is left of what they send: an octet that never comes, by which their sockets differ
+abbrev pub never_sent : ℕ → KnownOctets
+never_sent socket = Some ((256 + socket) ∷ [])
+
+-- what the calls of sockets to them give, under a clock that does not pass the end
+abbrev pub silent_facts : ℕ → SocketFacts ℕ ℕ
+silent_facts end = record {
+  IsMoment = λ time. as_nanos time ≤ end;
+  HasNoClock = ⊥;
+  IsConnectingFrom = λ time. as_nanos time ≡ 0;
+  AreFound = λ name addresses. Unit {0};
+  IsOpening = λ address socket. socket ≡ Some address;
+  IsConnected = λ socket. Unit {0};
+  IsRefused = λ socket. ⊥;
+  IsPending = λ socket. ⊥;
+  IsListenedFrom = λ socket time. as_nanos time ≡ 0;
+  IsBroken = λ socket. ⊥;
+  IsHeardAt = λ socket time left. ⊥;
+  IsIdleAt = λ socket time left. as_nanos time ≤ end;
+  IsGivenUp = λ socket looks. ⊥;
+  octets = never_sent;
 }

@@ -11,7 +11,7 @@ use std::time::Duration;
 use zber::Seq;
 use zber_tests::rows::{each_row, pair, split_row, tells};
 use zber_tests::unread::{Unread, read};
-use zoom::{Limits, Meta, MetaSettings, Network, Question, Unwatched, ask_at_once_over, ask_over};
+use zoom::{Limits, Meta, MetaSettings, Network, Question, Unwatched, ask_over};
 use zquery::parse_pqf;
 
 /// The Init is accepted, a search finds one record, and the Close is answered.
@@ -25,10 +25,10 @@ pub(crate) const ACCEPTS: &[u8] =
     b"\xb5\x1c\x82\x04\0\0\0\0\x83\x02\x05\xe0\x84\x03\x01\xc0\x06\x85\x03\x10\0\0\x86\x03\x10\0\0\x8c\x01\xff";
 
 // Addresses, the limits, and how asking the hosts `a`, `b` and `c` ends in order, and at once.
-// An address is the letter of its host, what it sends, and times: when it connects, when the first octet comes, how long
-// it is from one to the next, when it begins to take octets, and when it ends; `-` stands for nothing and for never.
-// The limits are the patience and the total. An end is the states of the three connections, that of the one that nobody
-// is asked on, and the time. All times are in milliseconds.
+// An address is the letter of its host, what it sends, and times: when it connects, when the first octet comes, how
+// long it is from one to the next, when it begins to take octets, and when it ends; `-` stands for nothing and for
+// never. The limits are the patience and the total. An end is the states of the three connections, that of the one that
+// nobody is asked on, and the time. All times are in milliseconds.
 const CASES: &str = "\
 # One hangs and one refuses: each costs its own connection.
 a - - 0 0 0 -, b refuses 1 0 0 0 -, c replies 1 10 0 0 - | 1000 - | Failed(Connect) Failed(Connect) Closed Fresh 1000 | Failed(Connect) Failed(Connect) Closed Fresh 1000
@@ -215,15 +215,9 @@ fn ask_three(
         None,
     ];
     let (begun, watch) = (Duration::ZERO, &mut Unwatched);
-    if at_once {
-        read(ask_at_once_over(
-            alloc, network, questions, settings, &addresses, limits, begun, watch,
-        ))
-    } else {
-        read(ask_over(
-            alloc, network, questions, settings, &addresses, limits, begun, watch,
-        ))
-    }
+    read(ask_over(
+        alloc, network, questions, settings, &addresses, limits, begun, at_once, watch,
+    ))
 }
 
 // The states of the four connections.

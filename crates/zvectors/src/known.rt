@@ -1,8 +1,8 @@
 // Hosts in memory of which all octets are known. What is read of each is a front of its own octets.
-ghost use Rattle.std.specs.Prelude.{◌≡◌, ◌<◌, ◌≤◌, ◌^◌, ◌+◌, ◌++◌, ℕ, false, [], length, take, drop, IfOk, bytes_eq, option_copied};
+ghost use Rattle.std.specs.Prelude.{◌≡◌, ◌<◌, ◌≤◌, ◌^◌, ◌+◌, ◌++◌, ℕ, false, None, [], length, take, drop, IfOk, bytes_eq, option_copied};
 ghost use Rattle.zoom.specs.Asking.{is_present, IsAskedOver};
 ghost use Rattle.zoom.specs.Askable.{AreAskable, AreFit};
-ghost use Rattle.zoom.specs.HostLinks.{IsBoundedTransfer, IsBrokenIf, AfterProgress, AfterReadFrom, AfterReceive};
+ghost use Rattle.zoom.specs.HostLinks.{IsBoundedTransfer, IsBrokenIf, AfterProgress, AfterReadFrom, AfterReceive, IsIdleNoted};
 ghost use Rattle.zoom.specs.TalksAmong.{halves_at};
 ghost use Rattle.zvectors.specs.Known.{sent_from, sent_after, facts_of, known_host, HasTime, AreOwnRead};
 
@@ -126,6 +126,21 @@ pub(crate) fn give(octets: &[u8], cursor: &mut usize, piece: &mut [u8], most: us
     count
 }
 
+/// Notes that each socket is ready, and whether no more octets come. Returns whether a flag is set that was not.
+pub(crate) fn set_all(ready: &mut [Readiness], closed: bool) -> bool {
+    let all = Readiness {
+        readable: true,
+        writable: true,
+        closed,
+    };
+    let mut is_new = false;
+    for noted in ready.iter_mut() {
+        is_new = is_new || *noted != all;
+        *noted = all;
+    }
+    is_new
+}
+
 impl<K: Places> Sockets for KnownHosts<K> {
     type Address = usize;
 
@@ -137,11 +152,19 @@ impl<K: Places> Sockets for KnownHosts<K> {
 
     ghost octets_left = { sent_after K.places (λ p. p.name) (λ p. p.sends) };
 
+    ghost idle_at = { λ cursor. None };
+
     ghost MayWait = { λ until. Unit {0} };
 
     ghost MayListen = { λ socket left until. Unit {0} };
 
+    ghost MayReadOn = { λ socket left time. Unit {0} };
+
     fn now(&self) -> Option<Duration> {
+        Some(Duration::ZERO)
+    }
+
+    fn connecting_from(&self) -> Option<Duration> {
         Some(Duration::ZERO)
     }
 
@@ -173,18 +196,12 @@ impl<K: Places> Sockets for KnownHosts<K> {
         0
     }
 
+    fn listened_from(&self, _: &usize) -> Option<Duration> {
+        Some(Duration::ZERO)
+    }
+
     fn wait(&self, _: Duration, _: Duration, ready: &mut [Readiness]) -> bool {
-        let all = Readiness {
-            readable: true,
-            writable: true,
-            closed: true,
-        };
-        let mut is_new = false;
-        for noted in ready.iter_mut() {
-            is_new = is_new || *noted != all;
-            *noted = all;
-        }
-        is_new
+        set_all(ready, true)
     }
 
     fn listen(
@@ -245,7 +262,7 @@ fn ask_places<K: Places>(
     let network = Network::new(alloc, KnownHosts::<K>::new(alloc, places)?);
     let (begun, watch) = (Duration::ZERO, &mut Unwatched);
     let meta = ask_over(
-        alloc, &network, questions, settings, addresses, limits, begun, watch,
+        alloc, &network, questions, settings, addresses, limits, begun, false, watch,
     )?;
     Ok((meta, network.into_sockets().left.into_inner()))
 }

@@ -1,6 +1,7 @@
 // Hosts in memory, under a clock that only waiting moves.
 ghost use Rattle.std.specs.Prelude.{length, None};
 ghost use Rattle.zoom.specs.HostLinks.{IsBoundedTransfer, AfterReadFrom};
+ghost use Rattle.zoom.specs.SocketFacts.{any_facts};
 
 use std::alloc::{AllocError, Global};
 use std::cell::RefCell;
@@ -103,6 +104,9 @@ pub(crate) struct PeersState {
     pub(crate) taken: Vec<Vec<u8>>,
     pub(crate) time: u64,
     reported: u64,
+    /// When connecting began, and when each was first listened to.
+    connecting: Option<u64>,
+    listened: Vec<Option<u64>>,
     /// How often was waited, and how many reads and writes there were.
     pub(crate) waits: u64,
     pub(crate) moves: u64,
@@ -112,17 +116,36 @@ impl PeersState {
     /// These hosts, at time 0.
     fn new(alloc: Global, peers: &[Peer]) -> Result<PeersState, AllocError> {
         let mut taken = Vec::new(alloc);
+        let mut listened = Vec::new(alloc);
         for _ in peers {
             taken.push(Vec::new(alloc))?;
+            listened.push(None)?;
         }
         Ok(PeersState {
             peers: peers.to_vec(alloc)?,
             taken,
             time: 0,
             reported: 0,
+            connecting: None,
+            listened,
             waits: 0,
             moves: 0,
         })
+    }
+
+    fn connecting_from(&mut self) -> u64 {
+        let from = self.connecting.unwrap_or(self.time);
+        self.connecting = Some(from);
+        from
+    }
+
+    fn listened_from(&mut self, socket: usize) -> u64 {
+        let Some(listened) = self.listened.get_mut(socket) else {
+            return self.time;
+        };
+        let from = listened.unwrap_or(self.time);
+        *listened = Some(from);
+        from
     }
 
     fn connect(&mut self, token: usize, address: usize) -> Option<usize> {
@@ -222,30 +245,28 @@ impl Sockets for Peers {
 
     type Cursor = usize;
 
-    ghost facts = { record {
-      IsMoment = λ time. Unit {0};
-      HasNoClock = Unit {0};
-      AreFound = λ name addresses. Unit {0};
-      IsOpening = λ address socket. Unit {0};
-      IsConnected = λ socket. Unit {0};
-      IsRefused = λ socket. Unit {0};
-      IsPending = λ socket. Unit {0};
-      IsBroken = λ socket. Unit {0};
-      IsHeardAt = λ socket time left. Unit {0};
-      IsIdleAt = λ socket time left. Unit {0};
-      IsGivenUp = λ socket looks. Unit {0};
-      octets = λ socket. None;
-    } };
+    ghost facts = { any_facts };
 
     ghost octets_left = { λ socket cursor. None };
+
+    ghost idle_at = { λ cursor. None };
 
     ghost MayWait = { λ until. Unit {0} };
 
     ghost MayListen = { λ socket left until. Unit {0} };
 
+    ghost MayReadOn = { λ socket left time. Unit {0} };
+
     fn now(&self) -> Option<Duration> {
         match self.state.try_borrow() {
             Ok(state) => Some(Duration::from_millis(state.time)),
+            Err(_) => None,
+        }
+    }
+
+    fn connecting_from(&self) -> Option<Duration> {
+        match self.state.try_borrow_mut() {
+            Ok(mut state) => Some(Duration::from_millis(state.connecting_from())),
             Err(_) => None,
         }
     }
@@ -282,6 +303,13 @@ impl Sockets for Peers {
 
     fn first(_: &usize) -> usize {
         0
+    }
+
+    fn listened_from(&self, socket: &usize) -> Option<Duration> {
+        match self.state.try_borrow_mut() {
+            Ok(mut state) => Some(Duration::from_millis(state.listened_from(*socket))),
+            Err(_) => None,
+        }
     }
 
     fn wait(&self, until: Duration, most: Duration, ready: &mut [Readiness]) -> bool {

@@ -4,14 +4,12 @@ ghost use Rattle.std.specs.Prelude.{◌≡◌, ◌<◌, ◌≤◌, ◌^◌, ◌+
 ghost use Rattle.std.specs.Duration.{as_nanos};
 ghost use Rattle.zoom.specs.Asking.{is_present, IsAskedOver};
 ghost use Rattle.zoom.specs.Askable.{AreAskable, AreFit};
-ghost use Rattle.zoom.specs.Connecting.{claims_of};
-ghost use Rattle.zoom.specs.Silence.{AllowsWaits, AllowsListening};
-ghost use Rattle.zoom.specs.TalksAmong.{halves_at};
 ghost use Rattle.zvectors.specs.Timed.{AreLeft, AreWaitedFor, all_of, timed_facts, timed_host};
 
 mod rows;
+mod silent;
 
-use crate::known::give;
+use crate::known::{give, set_all};
 use bytes::Bytes;
 use std::alloc::{AllocError, Global};
 use std::cell::Cell;
@@ -20,7 +18,7 @@ use std::process::Abort;
 use std::time::Duration;
 use zoom::{
     ConnectProgress, Limits, Meta, MetaSettings, Network, Question, Readiness, Received, Sockets,
-    Transfer, Unwatched, ask_at_once_over, ask_over,
+    Transfer, Unwatched, ask_over,
 };
 
 /// A host.
@@ -74,20 +72,20 @@ impl<K: Slowness> Hand<K> {
     }
 }
 
-/// Hosts in memory. A socket has the number of its host. Waiting takes its whole time, and nothing else takes any. If a
-/// socket is given up, the program stops.
+/// A clock that only waiting moves, and that does not pass its end.
 #[derive(Drop)]
-struct SlowHosts<'a, K: Slowness, R> {
-    rt: &'a R,
-    hosts: Vec<SlowHost>,
-    gap: Duration,
+struct WaitClock<K: Slowness> {
     hand: Cell<Hand<K>>,
-    ghost same: { hosts.items ≡ K.hosts },
-    ghost same_gap: { as_nanos gap ≡ K.gap },
-    ghost some_gap: { 0 < K.gap },
 }
 
-impl<'a, K: Slowness, R> SlowHosts<'a, K, R> {
+impl<K: Slowness> WaitClock<K> {
+    /// A clock at time 0.
+    fn new() -> WaitClock<K> {
+        WaitClock {
+            hand: Cell::new(Hand::new(Duration::ZERO)),
+        }
+    }
+
     /// The time.
     fn time(&self) -> Duration
         ensures { as_nanos result ≤ K.end }
@@ -98,6 +96,43 @@ impl<'a, K: Slowness, R> SlowHosts<'a, K, R> {
         time
     }
 
+    /// Waits until a time, and at most for `most`.
+    fn wait(&self, until: Duration, most: Duration)
+        requires { 0 < as_nanos most → ∥ as_nanos until ≤ K.end ∥₁ }
+    {
+        if !most.is_zero() {
+            let now = self.time();
+            let left = until.saturating_sub(now);
+            let span = left.saturating_sub(left.saturating_sub(most));
+            self.hand.set(Hand::new(now.saturating_add(span)));
+        }
+    }
+}
+
+/// How far a socket was read.
+#[derive(Drop)]
+struct SlowCursor {
+    /// How many octets were read.
+    place: usize,
+    /// When the last read gave nothing, if it did.
+    idle: Option<Duration>,
+}
+
+/// Hosts in memory. A socket has the number of its host, and is listened to from time 0 on. Waiting takes its whole
+/// time, and nothing else takes any. No socket is read after a read that gave nothing at the end. If a socket is given
+/// up, the program stops.
+#[derive(Drop)]
+struct SlowHosts<'a, K: Slowness, R> {
+    rt: &'a R,
+    hosts: Vec<SlowHost>,
+    gap: Duration,
+    clock: WaitClock<K>,
+    ghost same: { hosts.items ≡ K.hosts },
+    ghost same_gap: { as_nanos gap ≡ K.gap },
+    ghost some_gap: { 0 < K.gap },
+}
+
+impl<'a, K: Slowness, R> SlowHosts<'a, K, R> {
     /// All octets of the host with this number.
     fn octets_of(&self, number: usize) -> &[u8]
         ensures { result.now ≡ all_of K.hosts (λ h. h.sends) number }
@@ -147,18 +182,26 @@ impl<'a, K: Slowness, R: Abort> Sockets for SlowHosts<'a, K, R> {
 
     type Socket = usize;
 
-    type Cursor = usize;
+    type Cursor = SlowCursor;
 
     ghost facts = { timed_facts K.hosts (λ h. h.sends) K.gap K.end };
 
-    ghost octets_left = { λ socket cursor. Some (drop cursor (all_of K.hosts (λ h. h.sends) socket)) };
+    ghost octets_left = { λ socket cursor. Some (drop cursor.place (all_of K.hosts (λ h. h.sends) socket)) };
+
+    ghost idle_at = { λ cursor. cursor.idle };
 
     ghost MayWait = { λ until. as_nanos until ≤ K.end };
 
     ghost MayListen = { λ socket left until. as_nanos until ≤ K.end };
 
+    ghost MayReadOn = { λ socket left time. as_nanos time < K.end };
+
     fn now(&self) -> Option<Duration> {
-        Some(self.time())
+        Some(self.clock.time())
+    }
+
+    fn connecting_from(&self) -> Option<Duration> {
+        Some(Duration::ZERO)
     }
 
     fn resolve(&self, alloc: Global, text: &str) -> Result<Vec<usize>, AllocError> {
@@ -179,34 +222,26 @@ impl<'a, K: Slowness, R: Abort> Sockets for SlowHosts<'a, K, R> {
         ConnectProgress::Connected
     }
 
-    fn first(_: &usize) -> usize {
-        0
+    fn first(_: &usize) -> SlowCursor {
+        SlowCursor {
+            place: 0,
+            idle: None,
+        }
+    }
+
+    fn listened_from(&self, _: &usize) -> Option<Duration> {
+        Some(Duration::ZERO)
     }
 
     fn wait(&self, until: Duration, most: Duration, ready: &mut [Readiness]) -> bool {
-        if !most.is_zero() {
-            let now = self.time();
-            let left = until.saturating_sub(now);
-            let span = left.saturating_sub(left.saturating_sub(most));
-            self.hand.set(Hand::new(now.saturating_add(span)));
-        }
-        let all = Readiness {
-            readable: true,
-            writable: true,
-            closed: false,
-        };
-        let mut is_new = false;
-        for noted in ready.iter_mut() {
-            is_new = is_new || *noted != all;
-            *noted = all;
-        }
-        is_new
+        self.clock.wait(until, most);
+        set_all(ready, false)
     }
 
     fn listen(
         &self,
         _: &usize,
-        _: &usize,
+        _: &SlowCursor,
         until: Duration,
         most: Duration,
         ready: &mut [Readiness],
@@ -214,12 +249,18 @@ impl<'a, K: Slowness, R: Abort> Sockets for SlowHosts<'a, K, R> {
         self.wait(until, most, ready)
     }
 
-    fn read(&self, socket: &usize, cursor: &mut usize, piece: &mut [u8]) -> Received {
-        let time = self.time();
+    fn read(&self, socket: &usize, cursor: &mut SlowCursor, piece: &mut [u8]) -> Received {
+        let time = self.clock.time();
         let count = self.count_by(time);
-        let moved = match give_come(self.octets_of(*socket), cursor, piece, count) {
-            Some(count) => Transfer::Octets(count),
-            None => Transfer::NotYet,
+        let moved = match give_come(self.octets_of(*socket), &mut cursor.place, piece, count) {
+            Some(count) => {
+                cursor.idle = None;
+                Transfer::Octets(count)
+            }
+            None => {
+                cursor.idle = Some(time);
+                Transfer::NotYet
+            }
         };
         Received {
             moved,
@@ -233,39 +274,6 @@ impl<'a, K: Slowness, R: Abort> Sockets for SlowHosts<'a, K, R> {
 
     fn give_up(&self, _: &usize, _: u64) {
         panic!(self.rt; "a socket was given up")
-    }
-}
-
-/// Asks over a network, in order or at once.
-fn ask_either<S: Sockets>(
-    alloc: Global,
-    network: &Network<S>,
-    questions: Vec<Question>,
-    settings: MetaSettings,
-    addresses: &[Option<Bytes>],
-    limits: Limits,
-    begun: Duration,
-    at_once: bool,
-) -> Result<Meta, AllocError>
-    requires some { length questions.items < 2 ^ 32 }
-    requires askable { AreAskable questions.items }
-    requires fit { AreFit settings }
-    requires equal { length addresses.now ≡ length questions.items }
-    requires waits { AllowsWaits S.facts S.MayWait limits begun }
-    requires listens { AllowsListening S.facts S.MayListen limits begun }
-    ensures asked { IfOk result (λ meta. IsAskedOver
-        (λ c. claims_of S.facts limits begun at_once (halves_at addresses.now c))
-        questions.items settings at_once (is_present addresses.now) meta) }
-{
-    let watch = &mut Unwatched;
-    if at_once {
-        ask_at_once_over(
-            alloc, network, questions, settings, addresses, limits, begun, watch,
-        )
-    } else {
-        ask_over(
-            alloc, network, questions, settings, addresses, limits, begun, watch,
-        )
     }
 }
 
@@ -297,25 +305,24 @@ fn ask_hosts<K: Slowness, R: Abort>(
         (is_present addresses.now) made.0) }
     ensures ends { IfOk result (λ made. as_nanos made.1 ≤ K.end) }
 {
-    let hand = Cell::new(Hand::<K>::new(Duration::ZERO));
     let network = Network::new(
         alloc,
         SlowHosts {
             rt,
             hosts,
             gap,
-            hand,
+            clock: WaitClock::<K>::new(),
         },
     );
     let limits = Limits {
         patience,
         total: Some(total),
     };
-    let begun = Duration::ZERO;
-    let meta = ask_either(
-        alloc, &network, questions, settings, addresses, limits, begun, at_once,
+    let (begun, watch) = (Duration::ZERO, &mut Unwatched);
+    let meta = ask_over(
+        alloc, &network, questions, settings, addresses, limits, begun, at_once, watch,
     )?;
-    Ok((meta, network.into_sockets().time()))
+    Ok((meta, network.into_sockets().clock.time()))
 }
 
 /// Asks hosts in memory, in order or at once. An octet of each comes after each gap, at least as often as the patience.

@@ -1,4 +1,7 @@
 // Hosts in memory that send an octet at a time, as rows: how asking them ends, and when.
+ghost use Rattle.zoom.specs.Askable.{AreFit};
+
+use super::silent::ask_silent;
 use super::{SlowHost, ask_timed};
 use crate::asking::states_text;
 use crate::known::rows::{records_asked, sent};
@@ -38,6 +41,26 @@ fn hosts_of(alloc: Global, row: &str) -> Result<Vec<SlowHost>, Unread> {
     Ok(hosts)
 }
 
+fn settings() -> MetaSettings
+    ensures { AreFit result }
+{
+    MetaSettings {
+        name: Bytes::from_static(b"zmeta"),
+        step: 3,
+        window: 4,
+    }
+}
+
+// The addresses of the hosts `a`, `b` and `c`, and none for the last question.
+fn three_addresses() -> [Option<Bytes>; 4] {
+    [
+        Some(Bytes::from_static(b"a")),
+        Some(Bytes::from_static(b"b")),
+        Some(Bytes::from_static(b"c")),
+        None,
+    ]
+}
+
 // Asks the hosts `a`, `b` and `c` for the records of a word, and nobody for the last question.
 fn ask_three<R: Abort>(
     alloc: Global,
@@ -49,20 +72,18 @@ fn ask_three<R: Abort>(
     let Ok(questions) = records_asked(alloc) else {
         return Err(Unread);
     };
-    let settings = MetaSettings {
-        name: Bytes::from_static(b"zmeta"),
-        step: 3,
-        window: 4,
-    };
-    let addresses = [
-        Some(Bytes::from_static(b"a")),
-        Some(Bytes::from_static(b"b")),
-        Some(Bytes::from_static(b"c")),
-        None,
-    ];
     let gap = Duration::from_millis(100);
     read(ask_timed(
-        alloc, rt, hosts, gap, questions, settings, &addresses, gap, total, at_once,
+        alloc,
+        rt,
+        hosts,
+        gap,
+        questions,
+        settings(),
+        &three_addresses(),
+        gap,
+        total,
+        at_once,
     ))
 }
 
@@ -98,6 +119,48 @@ fn are_ends<R: Abort>(alloc: Global, rt: &R, row: &str) -> Result<bool, Unread> 
         tells(end_text(alloc, rt, hosts, total, false), in_order)
             && tells(end_text(alloc, rt, hosts, total, true), at_once),
     )
+}
+
+// How asking the hosts `a`, `b` and `c` ends if they never send anything.
+fn silent_text<R: Abort>(alloc: Global, rt: &R, at_once: bool) -> Result<String, Unread> {
+    let mut names = Vec::new(alloc);
+    for name in [b"a", b"b", b"c"] {
+        if names.push(Bytes::from_static(name)).is_err() {
+            return Err(Unread);
+        }
+    }
+    let Ok(questions) = records_asked(alloc) else {
+        return Err(Unread);
+    };
+    let patience = Duration::from_millis(700);
+    let asked = ask_silent(
+        alloc,
+        rt,
+        names,
+        questions,
+        settings(),
+        &three_addresses(),
+        patience,
+        at_once,
+    );
+    let Ok((meta, time)) = asked else {
+        return Err(Unread);
+    };
+    let Ok(states) = states_text(alloc, &meta) else {
+        return Err(Unread);
+    };
+    read(format!(in alloc; "{states} {}", time.as_millis()))
+}
+
+#[test]
+fn hosts_that_never_send_are_given_the_patience(rt: HostRuntime) -> Result<(), Fail> {
+    for at_once in [false, true] {
+        let text = silent_text(rt.alloc(), &rt, at_once);
+        if !tells(text, "Failed(Read) Failed(Read) Failed(Read) Fresh 700") {
+            return Err(Fail::new("hosts that never send"));
+        }
+    }
+    Ok(())
 }
 
 #[test]

@@ -5,6 +5,6 @@ use Rattle.zoom_tcp.proofs.at_once.ask_at_once.Goals as goal
 
 pub returns : goal.returns
 returns g c = record {
-  asked = ok_over_any c.ask_at_once_over.result _ c.args.questions.items c.args.settings true
-      (is_present c.args.addresses.now) c.ask_at_once_over.ensures.asked;
+  asked = ok_over_any c.ask_over.result _ c.args.questions.items c.args.settings true
+      (is_present c.args.addresses.now) c.ask_over.ensures.asked;
 }

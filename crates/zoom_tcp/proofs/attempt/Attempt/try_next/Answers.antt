@@ -1,7 +1,7 @@
 use Rattle.std.proofs.Common.{◌≤◌, length, refl, sym, subst, rules, None}
 use Rattle.zoom_tcp.specs.HostLinks.{IsTried}
 use Rattle.zoom_tcp.specs.Connecting.{AreAddressesOf, AreFailedBelow, IsAtStage, no_socket}
-use Rattle.zoom_tcp.specs.Silence.{IsSeen}
+use Rattle.zoom_tcp.specs.Silence.{IsStart}
 use Rattle.zoom_tcp.proofs.Attempts.{late, too_late, failed_next, failed_all, starts}
 use Rattle.zoom_tcp.proofs.attempt.Attempt.try_next.Goals as goal
 
@@ -41,7 +41,7 @@ returns-in-Some g c name a = record {
     named = subst (λ z. AreAddressesOf g.S.Sockets.facts name z) (sym c.loop-self.invariant.0) a.named;
     failed = subst (λ z. AreFailedBelow g.S.Sockets.facts z c.loop-self.self.tries.place) (sym c.loop-self.invariant.0)
         (c.loop-self.invariant.3 a.failed);
-    start = subst (IsSeen g.S.Sockets.facts) (sym c.loop-self.invariant.1) a.start;
+    start = subst (IsStart g.S.Sockets.facts) (sym c.loop-self.invariant.1) a.start;
   };
   stands = (c.in-Some.ensures, c.requires);
 }
@@ -56,7 +56,7 @@ returns g c name a =
       trying = record {
         named = named;
         failed = failed;
-        start = subst (IsSeen g.S.Sockets.facts) (sym c.loop-self.invariant.1) a.start;
+        start = subst (IsStart g.S.Sockets.facts) (sym c.loop-self.invariant.1) a.start;
       };
       stands = subst
           (IsAtStage g.S.Sockets.facts g.K.Limited.limits g.K.Limited.begun g.K.Limited.at_once name

@@ -1,25 +1,24 @@
-use Rattle.std.proofs.Common.{◌≡◌, ◌∙◌, [], ap, length, refl, sym, subst, rules}
-use Rattle.zoom_pool.specs.Metas.{MetaAfter}
+use Rattle.std.proofs.Common.{◌≡◌, ◌∙◌, ap, length, refl, sym, subst, rules}
 use Rattle.zoom_io.specs.TalksAmong.{halves_at}
 use Rattle.zoom_tcp.specs.Connecting.{IsAttempt, claims_of}
 use Rattle.zoom_tcp.specs.HostTalks.{AreAllBegun}
 use Rattle.zoom_tcp.specs.Silence.{HasReadFault}
 use Rattle.zoom_tcp.proofs.HostTalks.{asked_at_once, view_faulty}
-use Rattle.zoom_tcp.proofs.at_once.ask_at_once_since.Goals as goal
+use Rattle.zoom_tcp.proofs.at_once.talk_at_once.Goals as goal
 
 pub returns : goal.returns
 returns g c =
-    let after = subst (λ z. MetaAfter z c.args.settings [] c.in_ok-meta.meta) c.from_vec.ensures c.in_ok-meta.ensures.after in
     let same : c.deref_mut.result.now ≡ c.in_ok-talks.talks.items = search rules in
-    let size : length c.talk_with_all-talked.new.talks ≡ length c.args.questions.items =
-    c.talk_with_all-talked.ensures.hosts ∙ ap length same ∙ c.in_ok-talks.ensures.size ∙ c.in_ok-attempts.ensures.size
-    ∙ c.requires.equal in
     record {
-      asked = asked_at_once c.in_ok-attempts.attempts.items c.deref_mut.result.now c.talk_with_all-talked.new.talks _ refl
+      on = λ q s count after.
+          let size : length c.talk_with_all-talked.new.talks ≡ length q =
+          c.talk_with_all-talked.ensures.hosts ∙ ap length same ∙ c.in_ok-talks.ensures.size ∙ c.in_ok-attempts.ensures.size
+          ∙ sym count in
+          asked_at_once c.in_ok-attempts.attempts.items c.deref_mut.result.now c.talk_with_all-talked.new.talks _ refl
           (λ a. refl)
           (λ name a. IsAttempt g.S.Sockets.facts g.K.Limited.limits g.K.Limited.begun g.K.Limited.at_once name a.tries)
           (claims_of g.S.Sockets.facts g.K.Limited.limits g.K.Limited.begun g.K.Limited.at_once)
-          c.args.questions.items c.args.settings (halves_at c.args.addresses.now) c.in_ok-meta.meta
+          q s (halves_at c.args.addresses.now) c.args.meta
           c.talk_with_all-talked.new.meta
           (λ name. view_faulty _ _ _ (HasReadFault g.S.Sockets.facts g.K.Limited.limits g.K.Limited.begun) (λ source. source.fault)) after size
           (subst (λ z. AreAllBegun c.in_ok-attempts.attempts.items z) (sym same) c.in_ok-talks.ensures.begun)
