@@ -55,7 +55,7 @@ same_call e Close Init a b m n f g q = absurd (cc)
 same_call e Close (Search number of query) a b m n f g q = absurd (cc)
 same_call e Close (Present number of others) a b m n f g q = absurd (cc)
 
-one_call : NumberLaw → (e : Errand) (settings : Settings) (log : Log) → IsWanted e.wanted → 0 < e.step
+pub one_call : NumberLaw → (e : Errand) (settings : Settings) (log : Log) → IsWanted e.wanted → 0 < e.step
     → plan.IsDriven e.wanted e.step (events_of e.ask settings log) → (one other : Call)
     → IsDriverCall e settings log one → IsDriverCall e settings log other → one ≡ other
 one_call numbers e settings log w lo driven one other a b =
@@ -71,51 +71,51 @@ one_call_of numbers laws = λ e settings log d one other k a b.
 -- ---- calls after a log
 
 -- the log after these calls, the oldest first
-abbrev after_calls : Log → List Call → Log
+abbrev pub after_calls : Log → List Call → Log
 after_calls log [] = log
 after_calls log (call ∷ calls) = after_calls (Made call ∷ log) calls
 
-after_last : (log : Log) (calls : List Call) (call : Call)
+pub after_last : (log : Log) (calls : List Call) (call : Call)
     → Made call ∷ after_calls log calls ≡ after_calls log (calls ++ call ∷ [])
 after_last log [] call = refl
 after_last log (x ∷ calls) call = after_last (Made x ∷ log) calls call
 
 -- the same calls, the newest first
-turned : (log : Log) (calls : List Call) → (others : List Call) × (map Made calls ++ log ≡ after_calls log others)
+pub turned : (log : Log) (calls : List Call) → (others : List Call) × (map Made calls ++ log ≡ after_calls log others)
 turned log [] = ([], refl)
 turned log (call ∷ calls) =
     let t = turned log calls in (t.0 ++ call ∷ [], ap (λ l. Made call ∷ l) t.1 ∙ after_last log t.0 call)
 
 -- two logs amount to the same
-record SameSent (e : Errand) (settings : Settings) (log more : Log) : Type 0 where
+pub record SameSent (e : Errand) (settings : Settings) (log more : Log) : Type 0 where
   pub past : past settings log ≡ past settings more
   pub events : events_of e.ask settings log ≡ events_of e.ask settings more
 
 -- each call of the log was the driver's, and none is next
-record IsAtRest (e : Errand) (settings : Settings) (log : Log) : Type 0 where
+pub record IsAtRest (e : Errand) (settings : Settings) (log : Log) : Type 0 where
   pub steered : IsSteered e settings log
   pub driven : IsDrivenLog e.ask e.wanted e.step settings log
   pub none : (call : Call) → IsNextCall e settings log call → ⊥
 
 module _ (e : Errand) (settings : Settings) where
-  same_self : (log : Log) → SameSent e settings log log
+  pub same_self : (log : Log) → SameSent e settings log log
   same_self log = record { past = refl; events = refl }
 
-  same_back : (log more : Log) → SameSent e settings log more → SameSent e settings more log
+  pub same_back : (log more : Log) → SameSent e settings log more → SameSent e settings more log
   same_back log more s = record { past = sym s.past; events = sym s.events }
 
-  same_then : (log more most : Log) → SameSent e settings log more → SameSent e settings more most
+  pub same_then : (log more most : Log) → SameSent e settings log more → SameSent e settings more most
       → SameSent e settings log most
   same_then log more most s t = record { past = s.past ∙ t.past; events = s.events ∙ t.events }
 
-  same_more : (log more : Log) (call : Call) → SameSent e settings log more
+  pub same_more : (log more : Log) (call : Call) → SameSent e settings log more
       → SameSent e settings (Made call ∷ log) (Made call ∷ more)
   same_more log more call s = record {
     past = ap (λ p. admit_unless p call (refusal (standing p) call)) s.past;
     events = λ i. made_event (refusal (standing (s.past i)) call) call (s.events i);
   }
 
-  same_refused : (log : Log) (call : Call) (reason : CallRefused)
+  pub same_refused : (log : Log) (call : Call) (reason : CallRefused)
       → refusal (standing (past settings log)) call ≡ Some reason → SameSent e settings log (Made call ∷ log)
   same_refused log call reason q = record {
     past = sym (ap (admit_unless (past settings log) call) q);
@@ -133,12 +133,12 @@ module _ (e : Errand) (settings : Settings) where
         s.past n.next);
   }
 
-  steered_before : (log : Log) (calls : List Call) → IsSteered e settings (after_calls log calls)
+  pub steered_before : (log : Log) (calls : List Call) → IsSteered e settings (after_calls log calls)
       → IsSteered e settings log
   steered_before log [] s = s
   steered_before log (call ∷ calls) s = (steered_before (Made call ∷ log) calls s).1
 
-  driven_before : (log : Log) (calls : List Call) → IsDrivenLog e.ask e.wanted e.step settings (after_calls log calls)
+  pub driven_before : (log : Log) (calls : List Call) → IsDrivenLog e.ask e.wanted e.step settings (after_calls log calls)
       → IsDrivenLog e.ask e.wanted e.step settings log
   driven_before log [] d = d
   driven_before log (call ∷ calls) d = (driven_before (Made call ∷ log) calls d).1
@@ -204,13 +204,13 @@ module _ (e : Errand) (settings : Settings) where
   -- ---- two drives
 
   module _ (numbers : NumberLaw) (laws : DrivenLaws) (w : IsWanted e.wanted) (lo : 0 < e.step) where
-    abbrev SameEnd : List Call → Type 0
+    abbrev pub SameEnd : List Call → Type 0
     SameEnd calls =
         (others : List Call) (log more : Log) → SameSent e settings log more
         → IsAtRest e settings (after_calls log calls) → IsAtRest e settings (after_calls more others)
         → SameSent e settings (after_calls log calls) (after_calls more others)
 
-    same_end : (calls : List Call) → SameEnd calls
+    pub same_end : (calls : List Call) → SameEnd calls
     same_end [] others log more same a b =
         same_then log more (after_calls more others) same
         (stays others more b.steered (λ call n. a.none call (next_same more log (same_back log more same) call n)))
@@ -253,7 +253,7 @@ callable (origins.Failed reason) t = absurd (true≢false (sym t))
 module _ (hearing : OneTranscript) (settings : Settings) (events : List Event) (base : Transcript)
     (transcript : IsTranscript settings events base) where
   -- the transcript after calls on a connection that nothing stopped
-  called : base.stop ≡ None → (calls : List Call) (p : Transcript)
+  pub called : base.stop ≡ None → (calls : List Call) (p : Transcript)
       → IsTranscript settings (map (λ call. Called call) calls ++ events) p
       → p ≡ record base { log = map Made calls ++ base.log }
   called none [] p x = hearing settings events p base x transcript
@@ -262,7 +262,7 @@ module _ (hearing : OneTranscript) (settings : Settings) (events : List Event) (
       ∙ transcript_of_call (record base { log = map Made calls ++ base.log }) call none
 
   -- calls on a connection that was stopped change nothing
-  uncalled : (state : State) → base.stop ≡ Some state → (calls : List Call) (p : Transcript)
+  pub uncalled : (state : State) → base.stop ≡ Some state → (calls : List Call) (p : Transcript)
       → IsTranscript settings (map (λ call. Called call) calls ++ events) p → p ≡ base
   uncalled state stop [] p x = hearing settings events p base x transcript
   uncalled state stop (call ∷ calls) p x =
