@@ -1,0 +1,11 @@
+pub mod Actions
+pub mod Times
+pub mod Attempts
+pub mod Stages
+pub mod Courses
+pub mod Accounts
+pub mod Laws
+pub mod Wakes
+pub mod Clocks
+pub mod Turns
+pub mod Plans

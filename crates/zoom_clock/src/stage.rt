@@ -1,0 +1,338 @@
+//! How far a connection is, and what becomes of it by the rules.
+ghost use Rattle.std.specs.Prelude.{◌≡◌, ◌++◌, true, IfOk, OnOk};
+ghost use Rattle.zoom_clock.specs.declared.stage.Stage.TheVariants.{Connecting, Talking};
+ghost use Rattle.zoom_clock.specs.Actions.{all_for};
+ghost use Rattle.zoom_clock.specs.Stages.{IsRuling, next_stage, first_ruling, beginning_next, failing, giving_up, reading, winning, connecting_late, connecting_ruling, ending_talk, hearing, losing, listening, verdict, talking_ruling, ruling, connect_end, wake_in};
+ghost use Rattle.zoom_clock.specs.Attempts.{is_open, with_failed};
+ghost use Rattle.zoom_clock.specs.Times.{IsTime};
+
+use crate::action::{Action, Task, put};
+use crate::attempts::Attempts;
+use crate::limits::{Limits, earlier_of, has_come, later, total_end};
+use crate::signal::{Ending, Signal, Standing};
+use crate::talk::Talk;
+use std::alloc::{AllocError, Global};
+use std::collections::VecDeque;
+
+/// How far a connection is.
+#[derive(Drop)]
+pub enum Stage {
+    /// It is not asked.
+    NotChosen,
+    Connecting(Attempts),
+    Talking(Talk),
+    Over(Ending),
+}
+
+/// When something is told of which connection.
+#[derive(Clone, Copy)]
+pub(crate) struct Moment {
+    /// The number of the connection.
+    pub c: u32,
+    pub limits: Limits,
+    pub start: u64,
+    pub time: u64,
+    /// Whether octets of it are wanted.
+    pub wanted: bool,
+}
+
+impl Stage {
+    /// The stage at the start. Returns `AllocError` if no memory is found.
+    pub(crate) fn first(
+        alloc: Global,
+        c: u32,
+        addresses: Option<usize>,
+        start: u64,
+        queue: &mut VecDeque<Action>,
+    ) -> Result<Self, AllocError>
+        ensures { IfOk result (λ s. IsRuling (first_ruling addresses start) c s queue.old.items queue.new.items) }
+    {
+        match addresses {
+            None => Ok(Stage::NotChosen),
+            Some(0) => Ok(Stage::Over(Ending::Connect)),
+            Some(count) => {
+                let attempts = Attempts::new(alloc, count, start)?;
+                put(queue, c, Task::Connect(0))?;
+                Ok(Stage::Connecting(attempts))
+            }
+        }
+    }
+
+    /// The first time at which a tick does something. `None` if no limit runs, or no clock gets there.
+    pub(crate) fn wake_at(&self, limits: &Limits, start: u64, wanted: bool) -> Option<u64>
+        ensures { IsTime (wake_in limits.now start wanted self.now) result }
+    {
+        match self {
+            Stage::Connecting(attempts) => earlier_of(
+                connect_end(limits, start),
+                attempts.next_at(),
+            ),
+            Stage::Talking(talk) => talk.ends_at(limits, start, wanted),
+            _ => None,
+        }
+    }
+
+    /// What is told of the connection, by the rules.
+    pub(crate) fn note(
+        &mut self,
+        at: &Moment,
+        what: Signal,
+        queue: &mut VecDeque<Action>,
+    ) -> Result<(), AllocError>
+        ensures { OnOk result (IsRuling
+            (ruling at.now.limits at.now.start at.now.time at.now.wanted what self.old) at.now.c
+            self.new queue.old.items queue.new.items) }
+    {
+        match self {
+            Stage::Connecting(attempts) => {
+                if let Some(stage) = note_connecting(at, what, attempts, queue)? {
+                    *self = stage;
+                }
+                Ok(())
+            }
+            Stage::Talking(talk) => {
+                *self = note_talking(at, what, *talk, queue)?;
+                Ok(())
+            }
+            Stage::NotChosen | Stage::Over(_) => Ok(()),
+        }
+    }
+}
+
+/// When a connection that has not connected is given up. `None` if no clock gets there.
+fn connect_end(limits: &Limits, start: u64) -> Option<u64>
+    ensures { IsTime (connect_end limits.now start) result }
+{
+    earlier_of(later(start, limits.connect), total_end(limits.total, start))
+}
+
+// ---- connecting
+
+/// Begins the next attempt, if one is left.
+fn begin_next(
+    at: &Moment,
+    attempts: &mut Attempts,
+    queue: &mut VecDeque<Action>,
+) -> Result<(), AllocError>
+    ensures { OnOk result (IsRuling (beginning_next at.now.time attempts.old) at.now.c (Connecting attempts.new)
+        queue.old.items queue.new.items) }
+{
+    match attempts.next() {
+        None => Ok(()),
+        Some(k) => {
+            put(queue, at.c, Task::Connect(k))?;
+            attempts.begin(at.time, k);
+            Ok(())
+        }
+    }
+}
+
+/// The connection is over: its open attempts are left.
+fn give_up(
+    at: &Moment,
+    ending: Ending,
+    attempts: &Attempts,
+    queue: &mut VecDeque<Action>,
+) -> Result<Stage, AllocError>
+    ensures { IfOk result (λ s. IsRuling (giving_up ending attempts.now) at.now.c s queue.old.items queue.new.items) }
+{
+    attempts.leave_all(at.c, queue)?;
+    Ok(Stage::Over(ending))
+}
+
+/// Attempt `k` has failed, and was noted.
+fn fail(
+    at: &Moment,
+    k: usize,
+    attempts: &mut Attempts,
+    queue: &mut VecDeque<Action>,
+) -> Result<Option<Stage>, AllocError>
+    ensures { IfOk result (λ s. IsRuling (failing at.now.time k attempts.old) at.now.c (next_stage s attempts.new)
+        queue.old.items queue.new.items) }
+{
+    if attempts.states.have_all_failed() {
+        return Ok(Some(Stage::Over(Ending::Connect)));
+    }
+    if k == attempts.last {
+        begin_next(at, attempts, queue)?;
+    }
+    Ok(None)
+}
+
+/// Octets are wanted, if the turn of the connection has come.
+fn read_if_wanted(at: &Moment, queue: &mut VecDeque<Action>) -> Result<(), AllocError>
+    ensures { OnOk result (queue.new.items ≡ queue.old.items ++ all_for at.now.c (reading at.now.wanted)) }
+{
+    if at.wanted {
+        return put(queue, at.c, Task::Read);
+    }
+    Ok(())
+}
+
+/// Attempt `k` has connected.
+fn win(
+    at: &Moment,
+    k: usize,
+    attempts: &mut Attempts,
+    queue: &mut VecDeque<Action>,
+) -> Result<Stage, AllocError>
+    requires { is_open k attempts.old.states ≡ true }
+    ensures { IfOk result (λ s. IsRuling (winning at.now.limits at.now.time at.now.wanted k attempts.old) at.now.c s
+        queue.old.items queue.new.items) }
+{
+    attempts.fail(k);
+    attempts.leave_all(at.c, queue)?;
+    read_if_wanted(at, queue)?;
+    Ok(Stage::Talking(Talk::new(&at.limits, at.time, k)))
+}
+
+/// A time has come: the connection is given up, or its next attempt begins.
+fn note_late(
+    at: &Moment,
+    attempts: &mut Attempts,
+    queue: &mut VecDeque<Action>,
+) -> Result<Option<Stage>, AllocError>
+    ensures { IfOk result (λ s. IsRuling (connecting_late at.now.limits at.now.start at.now.time attempts.old)
+        at.now.c (next_stage s attempts.new) queue.old.items queue.new.items) }
+{
+    if has_come(connect_end(&at.limits, at.start), at.time) {
+        return Ok(Some(give_up(at, Ending::Connect, attempts, queue)?));
+    }
+    begin_next(at, attempts, queue)?;
+    Ok(None)
+}
+
+/// What is told of a connection that has not connected.
+fn note_connecting(
+    at: &Moment,
+    what: Signal,
+    attempts: &mut Attempts,
+    queue: &mut VecDeque<Action>,
+) -> Result<Option<Stage>, AllocError>
+    ensures { IfOk result (λ s. IsRuling
+        (connecting_ruling at.now.limits at.now.start at.now.time at.now.wanted what attempts.old)
+        at.now.c (next_stage s attempts.new) queue.old.items queue.new.items) }
+{
+    match what {
+        Signal::Connected(k) => {
+            if attempts.is_open(k) {
+                return Ok(Some(win(at, k, attempts, queue)?));
+            }
+            Ok(None)
+        }
+        Signal::Unreachable(k) => {
+            if attempts.is_open(k) {
+                attempts.fail(k);
+                return fail(at, k, attempts, queue);
+            }
+            Ok(None)
+        }
+        Signal::NoSocket(k) => {
+            if attempts.is_open(k) {
+                attempts.wait(at.time, k);
+            }
+            Ok(None)
+        }
+        Signal::GiveUp => Ok(Some(give_up(at, Ending::Turns, attempts, queue)?)),
+        Signal::Tick => note_late(at, attempts, queue),
+        _ => Ok(None),
+    }
+}
+
+// ---- talking
+
+/// The connection is over: its socket is left.
+fn end_talk(
+    at: &Moment,
+    talk: &Talk,
+    ending: Ending,
+    queue: &mut VecDeque<Action>,
+) -> Result<Stage, AllocError>
+    ensures { IfOk result (λ s. IsRuling (ending_talk talk.now ending) at.now.c s queue.old.items queue.new.items) }
+{
+    put(queue, at.c, Task::Leave(talk.socket))?;
+    Ok(Stage::Over(ending))
+}
+
+/// Octets came: they have ended the connection, or it goes on.
+fn hear(
+    at: &Moment,
+    standing: Standing,
+    mut talk: Talk,
+    queue: &mut VecDeque<Action>,
+) -> Result<Stage, AllocError>
+    ensures { IfOk result (λ s. IsRuling (hearing at.now.time standing talk) at.now.c s
+        queue.old.items queue.new.items) }
+{
+    if let Standing::Finished = standing {
+        return end_talk(at, &talk, Ending::Finished, queue);
+    }
+    if talk.hear(at.time, standing) {
+        let ending = talk.verdict(Ending::Turns);
+        return end_talk(at, &talk, ending, queue);
+    }
+    Ok(Stage::Talking(talk))
+}
+
+/// A write failed: what still comes is read, unless the connection has all it wanted.
+fn lose(at: &Moment, mut talk: Talk, queue: &mut VecDeque<Action>) -> Result<Stage, AllocError>
+    ensures { IfOk result (λ s. IsRuling (losing talk) at.now.c s queue.old.items queue.new.items) }
+{
+    if talk.leaving {
+        return end_talk(at, &talk, Ending::InputEnded, queue);
+    }
+    talk.lost = true;
+    Ok(Stage::Talking(talk))
+}
+
+/// The turn of the connection has come.
+fn listen(at: &Moment, mut talk: Talk, queue: &mut VecDeque<Action>) -> Result<Stage, AllocError>
+    ensures { IfOk result (λ s. IsRuling (listening at.now.time at.now.wanted talk) at.now.c s
+        queue.old.items queue.new.items) }
+{
+    if at.wanted {
+        return Ok(Stage::Talking(talk));
+    }
+    put(queue, at.c, Task::Read)?;
+    talk.heard = at.time;
+    Ok(Stage::Talking(talk))
+}
+
+/// The connection is given up for this reason.
+fn end_for(
+    at: &Moment,
+    talk: &Talk,
+    ending: Ending,
+    queue: &mut VecDeque<Action>,
+) -> Result<Stage, AllocError>
+    ensures { IfOk result (λ s. IsRuling (ending_talk talk.now (verdict talk.now ending)) at.now.c s
+        queue.old.items queue.new.items) }
+{
+    let verdict = talk.verdict(ending);
+    end_talk(at, talk, verdict, queue)
+}
+
+/// What is told of a connection that is talked with.
+fn note_talking(
+    at: &Moment,
+    what: Signal,
+    mut talk: Talk,
+    queue: &mut VecDeque<Action>,
+) -> Result<Stage, AllocError>
+    ensures { IfOk result (λ s. IsRuling (talking_ruling at.now.time at.now.wanted what talk) at.now.c s
+        queue.old.items queue.new.items) }
+{
+    match what {
+        Signal::Octets(standing) => hear(at, standing, talk, queue),
+        Signal::Taken => {
+            talk.heard = at.time;
+            Ok(Stage::Talking(talk))
+        }
+        Signal::End => end_for(at, &talk, Ending::InputEnded, queue),
+        Signal::Unreadable | Signal::Tick => end_for(at, &talk, Ending::Read, queue),
+        Signal::GiveUp => end_for(at, &talk, Ending::Turns, queue),
+        Signal::Unwritable => lose(at, talk, queue),
+        Signal::Turn => listen(at, talk, queue),
+        _ => Ok(Stage::Talking(talk)),
+    }
+}
