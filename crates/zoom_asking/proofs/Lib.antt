@@ -23,3 +23,4 @@ pub mod Endings
 pub mod Turned
 pub mod Beginning
 pub mod Starting
+pub mod Settling

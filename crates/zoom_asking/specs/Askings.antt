@@ -187,8 +187,13 @@ abbrev pub IsWakeAt : Asking → Option ℕ → Type 0
 IsWakeAt a r =
     (i : Inquiry) (history : List Entry) → AskingAfter i history a → IsLeastWake a.clock.courses.items r
 
--- if the result is true, each connection is over, or was not chosen
+-- each connection is over, or was not chosen; or some one is not
+abbrev pub AreOver : Bool → List HostState → Type 0
+AreOver true hosts = (c : ℕ) (h : HostState) → slice_get hosts c ≡ Some h → is_settled h.course.stage ≡ true
+AreOver false hosts =
+    (c : ℕ) × (h : HostState) × (slice_get hosts c ≡ Some h) × (is_settled h.course.stage ≡ false)
+
+-- the result is true if each connection is over or was not chosen, and else false
 abbrev pub IsOverAt : Asking → Bool → Type 0
 IsOverAt a result =
-    (i : Inquiry) (history : List Entry) → (after : AskingAfter i history a) → result ≡ true
-    → (c : ℕ) (h : HostState) → slice_get after.hosts c ≡ Some h → is_settled h.course.stage ≡ true
+    (i : Inquiry) (history : List Entry) → (after : AskingAfter i history a) → AreOver result after.hosts

@@ -16,6 +16,7 @@ use Rattle.zoom_clock.specs.Courses as clock
 use Rattle.zoom_clock.specs.Courses.{course_after}
 use Rattle.zoom_asking.specs.declared.asking.Asking.{Asking}
 use Rattle.zoom_asking.specs.declared.inquiry.AskedHost.{AskedHost}
+use Rattle.zoom_asking.specs.declared.inquiry.TheConstants.{MOST_PIECES}
 use Rattle.zoom_asking.specs.Inquiries.{Inquiry, Entry, Event, Told, Came, Noted, is_at_once, limits_of, addresses_of, own}
 use Rattle.zoom_asking.specs.Hosts.{HostState, HostAfter}
 use Rattle.zoom_asking.specs.Askings.{HostsAfter, AskingAfter}
@@ -153,3 +154,7 @@ pub record AskedLaws : Type 0 where
   pub not_chosen : (i : Inquiry) (history : List Entry) (hosts : List HostState) (c : ℕ) (question : Question) (h : HostState)
       → HostsAfter i history hosts → slice_get i.questions c ≡ Some question → slice_get i.hosts c ≡ Some None
       → slice_get hosts c ≡ Some h → (h.events ≡ []) × (h.course.stage ≡ NotChosen)
+
+-- in order, a connection may have a million pieces
+abbrev pub PiecesLaw : Type 0
+PiecesLaw = MOST_PIECES ≡ 1000000

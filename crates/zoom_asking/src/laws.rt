@@ -1,5 +1,5 @@
 //! Laws of every history of an inquiry. Each is the contract of a function that does nothing.
-ghost use Rattle.zoom_asking.specs.Laws.{OwnLaw, CourseLaw, IsolationLaw, EndLaws, AskedLaws};
+ghost use Rattle.zoom_asking.specs.Laws.{OwnLaw, CourseLaw, IsolationLaw, EndLaws, AskedLaws, PiecesLaw};
 
 use zoom_pool::driving::driven_laws;
 use zoom_pool::laws::{one_input, one_transcript};
@@ -40,3 +40,8 @@ pub fn asked_laws()
 {
     end_laws();
 }
+
+/// In order, a connection stops for `Turns` after 1,000,000 pieces.
+pub fn pieces_law()
+    ensures { PiecesLaw }
+{}

@@ -7,7 +7,8 @@ use Rattle.zoom_clock.specs.declared.course.Course.{Course}
 use Rattle.zoom_clock.specs.declared.signal.Signal.TheVariants as signals
 use Rattle.zoom_clock.specs.Actions.{all_for}
 use Rattle.zoom_clock.specs.Courses.{event, is_settled, step, tasks_of}
-use Rattle.zoom_clock.specs.Clocks.{IsOrderly, AfterNote, AfterTurns, with_turn, with_next_turn, turn_tasks, next_turn_tasks, courses_after_turns, turns_tasks}
+use Rattle.zoom_clock.specs.Clocks.{IsOrderly, AfterNote, AfterTurns, SomeIsOpen, with_turn, with_next_turn, turn_tasks, next_turn_tasks, courses_after_turns, turns_tasks}
+use Rattle.zoom_clock.proofs.Places.{some_at}
 use Rattle.zoom_clock.specs.Turns.{IsFirstOpen}
 
 -- the connections before this one are over
@@ -58,6 +59,10 @@ set_same : (ps : List Course) (c : ℕ) (p : Course) → slice_get ps c ≡ Some
 set_same [] c p get = refl
 set_same (q ∷ ps) zero p get = let e : p ≡ q = cc in ap (λ x. x ∷ ps) e
 set_same (q ∷ ps) (suc c) p get = ap (λ l. q ∷ l) (set_same ps c p get)
+
+-- some connection is open, if the first that is stands before the end
+pub open_found : (ps : List Course) (from first : ℕ) → IsFirstOpen ps from first → first < length ps → SomeIsOpen ps
+open_found ps from first f lt = let s = some_at ps first lt in (first, s.0, s.1, f.at s.0 s.1)
 
 -- ---- the clock
 

@@ -68,6 +68,10 @@ pub record AfterTurns (at : ℕ) (old new : Clock) : Type 0 where
 abbrev pub AreSettled : List Course → Type 0
 AreSettled ps = (c : ℕ) (p : Course) → slice_get ps c ≡ Some p → is_settled p.stage ≡ true
 
+-- some connection is neither over nor not chosen
+abbrev pub SomeIsOpen : List Course → Type 0
+SomeIsOpen ps = (c : ℕ) × (p : Course) × (slice_get ps c ≡ Some p) × (is_settled p.stage ≡ false)
+
 -- no connection is to be looked at before this time; with none, no clock of 64 bits gets to the time of any
 abbrev pub NoneWakesBefore : Option ℕ → List Course → Type 0
 NoneWakesBefore None ps = (c : ℕ) (p : Course) → slice_get ps c ≡ Some p → 2 ^ 64 ≤ wake_of p

@@ -4,6 +4,7 @@ use Rattle.zoom_clock.specs.declared.action.Task.{Task}
 use Rattle.zoom_clock.specs.declared.action.Task.TheVariants.{Connect, Read}
 use Rattle.zoom_clock.specs.declared.attempt.Attempt.TheVariants.{Failed}
 use Rattle.zoom_clock.specs.declared.attempts.Attempts.{Attempts}
+use Rattle.zoom_clock.specs.declared.attempts.TheConstants.{STAGGER}
 use Rattle.zoom_clock.specs.declared.course.Course.{Course}
 use Rattle.zoom_clock.specs.declared.limits.Limits.{Limits}
 use Rattle.zoom_clock.specs.declared.signal.Ending.{Ending}
@@ -13,6 +14,7 @@ use Rattle.zoom_clock.specs.declared.signal.Standing.TheVariants as standings
 use Rattle.zoom_clock.specs.declared.stage.Stage.{Stage}
 use Rattle.zoom_clock.specs.declared.stage.Stage.TheVariants.{Connecting, Talking, Over}
 use Rattle.zoom_clock.specs.declared.talk.Talk.{Talk}
+use Rattle.zoom_clock.specs.declared.talk.TheConstants.{FAREWELL}
 use Rattle.zoom_clock.specs.Times.{never}
 use Rattle.zoom_clock.specs.Attempts.{is_ahead, has_failed, next_at}
 use Rattle.zoom_clock.specs.Stages.{connect_end, talk_end}
@@ -129,3 +131,7 @@ abbrev pub TurnLaw : Type 0
 TurnLaw =
     (limits : Limits) (n start : ℕ) (wanted : Bool) (es : List Event)
     → Contains (tasks_till limits n start wanted es) Read → (wanted ≡ true) ⊎ WasTold signals.Turn es
+
+-- the times that the rules have of their own, in nanoseconds
+abbrev pub TimesLaw : Type 0
+TimesLaw = (STAGGER ≡ 250000000) × (FAREWELL ≡ 2000000000)

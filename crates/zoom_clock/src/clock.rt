@@ -30,10 +30,10 @@ pub struct Clock {
 }
 
 impl Clock {
-    ghost use Rattle.std.specs.Prelude.{◌≡◌, ℕ, ◌+◌, ◌<◌, ◌≤◌, ◌^◌, ◌++◌, ◌∷◌, [], ◌↔◌, max, not, true, length, slice_get, IfOk, IfSome, IfNone, OnOk, Some, Contains, option_to_list};
+    ghost use Rattle.std.specs.Prelude.{◌≡◌, ℕ, ◌+◌, ◌<◌, ◌≤◌, ◌^◌, ◌++◌, ◌∷◌, [], ◌↔◌, max, not, true, false, length, slice_get, IfOk, IfSome, IfNone, OnOk, Some, Contains, option_to_list};
     ghost use Rattle.zoom_clock.specs.declared.signal.Signal.TheVariants as signals;
     ghost use Rattle.zoom_clock.specs.Actions.{for_connection};
-    ghost use Rattle.zoom_clock.specs.Clocks.{IsOrderly, AfterNote, AfterTurns, AreSettled, IsLeastWake, NoneIsDue, due_count, all_planned, planned_tasks};
+    ghost use Rattle.zoom_clock.specs.Clocks.{IsOrderly, AfterNote, AfterTurns, AreSettled, SomeIsOpen, IsLeastWake, NoneIsDue, due_count, all_planned, planned_tasks};
     ghost use Rattle.zoom_clock.specs.Courses.{event, is_settled, wake_of};
     ghost use Rattle.zoom_clock.specs.Wakes.{IsDueAt};
 
@@ -147,11 +147,12 @@ impl Clock {
         Ok(())
     }
 
-    /// Whether each connection is over, or was not chosen, as of when turns were last taken.
+    /// Whether each connection is over, or was not chosen. It looks at those that ended since turns were last taken.
     pub fn is_over(&self) -> bool
         ensures over { IsOrderly self.now → result ≡ true → AreSettled self.now.courses.items }
+        ensures some { result ≡ false → SomeIsOpen self.now.courses.items }
     {
-        self.turn >= self.courses.len()
+        first_open(&self.courses, self.turn) >= self.courses.len()
     }
 
     /// A connection to which a tick at the latest time that has passed does something, if there is one.

@@ -1,5 +1,5 @@
 //! Laws of every history of one connection. Each is the contract of a function that does nothing.
-ghost use Rattle.zoom_clock.specs.Laws.{EarlyLaws, LateLaws, WakeLaws, SettledLaw, AttemptLaws, LeaveLaw, TurnLaw};
+ghost use Rattle.zoom_clock.specs.Laws.{EarlyLaws, LateLaws, WakeLaws, SettledLaw, AttemptLaws, LeaveLaw, TurnLaw, TimesLaw};
 
 /// Nobody is given up early: how a connection ended was told, or the time had come.
 pub fn early_laws()
@@ -34,4 +34,9 @@ pub fn leave_law()
 /// Octets are wanted only of a connection whose turn has come.
 pub fn turn_law()
     ensures { TurnLaw }
+{}
+
+/// The next attempt is due after 250 milliseconds; a connection that has all it wanted may be silent for two seconds.
+pub fn times_law()
+    ensures { TimesLaw }
 {}

@@ -1,0 +1,5 @@
+pub mod TakeSteps
+pub mod Readings
+pub mod Exchanges
+pub mod Stages
+pub mod Serving
