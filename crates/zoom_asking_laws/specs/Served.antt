@@ -29,7 +29,8 @@ pub data IsServed (i : Inquiry) (host : Option AskedHost) (question : Question) 
       → IsServed i host question holdings [] h [] end
   feeds : (es : List Event) (h : HostState) (xs : List HostEvent) (end later : ServingEnd) (piece rest : List ℕ)
       → IsServed i host question holdings es h xs end → given h.events ≡ fed_to xs ++ piece ++ rest
-      → ServingEndAfter holdings (HostFed piece ∷ xs) later → IsServed i host question holdings es h (HostFed piece ∷ xs) later
+      → ServingEndAfter holdings (HostFed piece ∷ xs) later
+      → IsServed i host question holdings es h (HostFed piece ∷ xs) later
   releases : (es : List Event) (h : HostState) (xs : List HostEvent) (end later : ServingEnd) (k : ℕ)
       → IsServed i host question holdings es h xs end → ServingEndAfter holdings (Released k ∷ xs) later
       → IsServed i host question holdings es h (Released k ∷ xs) later
@@ -41,7 +42,8 @@ pub data IsServed (i : Inquiry) (host : Option AskedHost) (question : Question) 
       → IsTold i.settings question at (Came piece) h g
       → IsServed i host question holdings (record { at = at; told = Came piece } ∷ es) g xs end
   tells : (es : List Event) (h g : HostState) (xs : List HostEvent) (end : ServingEnd) (at : ℕ) (what : Signal)
-      → IsServed i host question holdings es h xs end → IsReported (Noted what) → IsTold i.settings question at (Noted what) h g
+      → IsServed i host question holdings es h xs end → IsReported (Noted what)
+      → IsTold i.settings question at (Noted what) h g
       → IsServed i host question holdings (record { at = at; told = Noted what } ∷ es) g xs end
 
 -- of a connection whose messages have ended it, exactly the facts are known that its question brings from the target

@@ -1,0 +1,138 @@
+//! Runs: hosts in memory are asked, by a seed.
+use crate::agenda::Agenda;
+use crate::catalogues::questions;
+use crate::conduct::Conduct;
+use crate::fault::Fault;
+use crate::peers::Peer;
+use crate::simulation::Simulation;
+use crate::tempers::{MILLISECOND, Nature, Temper, draw_nature};
+use bytes::Bytes;
+use std::alloc::Global;
+use zber::Seq;
+use zber_tests::dice::Dice;
+use zoom_asking::{AskedHost, Asking, Manner};
+use zoom_pool::MetaSettings;
+
+/// What a run does, all else by dice.
+#[derive(Clone, Copy)]
+pub struct Plan {
+    /// Where the dice begin.
+    pub seed: u64,
+    /// How many hosts there are.
+    pub hosts: u32,
+    /// Whether they are asked at once, or in order.
+    pub at_once: bool,
+    /// Whether the caller gives up in the midst.
+    pub gives_up: bool,
+}
+
+impl Plan {
+    /// How long all may take, in nanoseconds.
+    fn total(&self) -> u64 {
+        if self.at_once {
+            5_000 * MILLISECOND
+        } else {
+            30_000 * MILLISECOND
+        }
+    }
+
+    fn manner(&self) -> Manner {
+        if self.at_once {
+            Manner::AtOnce
+        } else {
+            Manner::InOrder
+        }
+    }
+}
+
+/// The natures of the hosts.
+fn natures(alloc: Global, hosts: u32, dice: &mut Dice) -> Result<Vec<Nature>, Fault> {
+    let mut natures = Vec::new(alloc);
+    for _ in 0..hosts {
+        natures.push(draw_nature(dice))?;
+    }
+    Ok(natures)
+}
+
+/// Whom to ask, unless the host is not chosen.
+fn asked_host(nature: Nature) -> Option<AskedHost> {
+    if nature.temper == Temper::Unasked {
+        return None;
+    }
+    Some(AskedHost {
+        addresses: nature.addresses,
+        connect: 1_000 * MILLISECOND,
+        patience: 1_000 * MILLISECOND,
+    })
+}
+
+/// Begins to ask hosts of these natures.
+fn begin(alloc: Global, natures: &[Nature], plan: Plan, now: u64) -> Result<Asking, Fault> {
+    let mut hosts = Vec::new(alloc);
+    for nature in natures {
+        hosts.push(asked_host(*nature))?;
+    }
+    let questions = questions(alloc, natures.len())?;
+    if questions.len() != hosts.len() || questions.len() > 1_000_000 {
+        return Err(Fault::Unread);
+    }
+    let settings = MetaSettings {
+        name: Bytes::from_static(b"zmeta"),
+        step: 3,
+        window: 4,
+    };
+    let (manner, total) = (plan.manner(), Some(plan.total()));
+    Ok(Asking::new(
+        alloc,
+        Seq::from_vec(questions),
+        settings,
+        hosts.as_slice(),
+        manner,
+        total,
+        now,
+    )?)
+}
+
+/// A run that has begun.
+fn begun(alloc: Global, plan: Plan) -> Result<Simulation, Fault> {
+    let mut dice = Dice::new(plan.seed);
+    let natures = natures(alloc, plan.hosts, &mut dice)?;
+    let now = dice.number_below(5_000_000_000);
+    let asking = begin(alloc, natures.as_slice(), plan, now)?;
+    let (mut peers, mut conducts) = (Vec::new(alloc), Vec::new(alloc));
+    for c in 0..plan.hosts {
+        let Some(nature) = natures.get(c as usize) else {
+            return Err(Fault::Unread);
+        };
+        peers.push(Peer::new(alloc, c, *nature)?)?;
+        conducts.push(Conduct::new(alloc, nature.addresses)?)?;
+    }
+    let end = now.saturating_add(plan.total());
+    let gives_up = if plan.gives_up {
+        Some(now.saturating_add(dice.number_below(2_000 * MILLISECOND)))
+    } else {
+        None
+    };
+    Ok(Simulation {
+        alloc,
+        asking,
+        peers,
+        conducts,
+        agenda: Agenda::new(alloc),
+        held: Vec::new(alloc),
+        dice,
+        in_order: !plan.at_once,
+        now,
+        end,
+        gives_up,
+        digest: plan.seed,
+    })
+}
+
+/// Asks hosts in memory to the end. Returns a digest of all actions, with their times and octets; or what went wrong.
+pub fn simulate(alloc: Global, plan: Plan) -> Result<u64, Fault> {
+    let mut run = begun(alloc, plan)?;
+    run.go()?;
+    run.judge_all()?;
+    Ok(run.digest)
+}
