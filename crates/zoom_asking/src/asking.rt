@@ -115,6 +115,7 @@ impl Asking {
         ensures none { OnOk result (unsent_at self.new c ≡ []) }
         ensures after { KeepsHistories self.old self.new }
         ensures err { OnErr result (out.new.items ≡ out.old.items) }
+        ensures kept { OnErr result (self.new.unsent.items ≡ self.old.unsent.items) }
         ensures meta { self.new.meta ≡ self.old.meta }
         ensures clock { self.new.clock ≡ self.old.clock }
     {

@@ -7,7 +7,7 @@ pub enum Signal {
     Connected(usize),
     /// The attempt of this number to connect failed.
     Unreachable(usize),
-    /// The system had no socket for the attempt of this number.
+    /// The system had no socket left for the attempt of this number. It is made again, before any other.
     NoSocket(usize),
     /// Octets came, and were processed.
     Octets(Standing),
