@@ -28,7 +28,7 @@ pub struct Asking {
 }
 
 impl Asking {
-    ghost use Rattle.std.specs.Prelude.{◌≡◌, ℕ, ◌+◌, ◌<◌, ◌^◌, ◌++◌, [], max, false, length, IfOk, OnOk, OnErr, Some, option_to_list};
+    ghost use Rattle.std.specs.Prelude.{◌≡◌, ℕ, ◌+◌, ◌<◌, ◌^◌, ◌++◌, [], max, false, length, IfOk, IfNone, OnOk, OnErr, Some, option_to_list};
     ghost use Rattle.zoom_questions.specs.Askable.{AreFit, AreAskable};
     ghost use Rattle.zoom_clock.specs.Wakes.{IsDueAt};
     ghost use Rattle.zoom_clock.specs.Clocks.{IsLeastWake, due_count};
@@ -100,6 +100,7 @@ impl Asking {
     /// takes no memory.
     pub fn next_action(&mut self) -> Option<Action>
         ensures action { self.old.clock.queue.items ≡ option_to_list result ++ self.new.clock.queue.items }
+        ensures none { IfNone result (self.old.clock.queue.items ≡ []) }
         ensures after { KeepsHistories self.old self.new }
         ensures meta { self.new.meta ≡ self.old.meta }
         ensures unsent { self.new.unsent ≡ self.old.unsent }

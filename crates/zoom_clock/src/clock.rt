@@ -186,6 +186,7 @@ impl Clock {
     /// What is to be done next; each task is handed out once, the oldest first. It takes no memory.
     pub fn next_action(&mut self) -> Option<Action>
         ensures queue { self.old.queue.items ≡ option_to_list result ++ self.new.queue.items }
+        ensures none { IfNone result (self.old.queue.items ≡ []) }
         ensures wakes { self.new.wakes ≡ self.old.wakes }
         ensures courses { self.new.courses ≡ self.old.courses }
         ensures passed { self.new.passed ≡ self.old.passed }
