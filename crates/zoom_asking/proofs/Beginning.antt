@@ -14,15 +14,16 @@ use Rattle.zoom_asking.specs.declared.inquiry.AskedHost.{AskedHost}
 use Rattle.zoom_asking.specs.Changes.{ending_of}
 use Rattle.zoom_asking.specs.Inquiries.{Inquiry, addresses_of}
 use Rattle.zoom_asking.specs.Talks.{IsClosed, closing}
-use Rattle.zoom_asking.specs.Hosts.{HostState, course_of, first_events, first_host, sends}
+use Rattle.zoom_asking.specs.Hosts.{AskedConnection, course_of, first_events, first_host, sends}
 use Rattle.zoom_asking.specs.Askings.{Holds, IsTalkedOn, HasBegun, HasBegunAt, begun_to, fresh_host}
-use Rattle.zoom_asking.proofs.Holding.{events, related, talked, talked_host, get_map, set_same}
+use Rattle.zoom_clock.proofs.Places.{set_same}
+use Rattle.zoom_asking.proofs.Holding.{events, related, talked, talked_host, get_map}
 use Rattle.zoom_asking.proofs.Entering.{host_at, question_at}
 
 -- ---- the list of connections, as a loop goes over it
 
 -- the connection that is next is still fresh
-next_fresh : (i : Inquiry) (c : ℕ) (hosts : List (Option AskedHost)) (h : HostState)
+next_fresh : (i : Inquiry) (c : ℕ) (hosts : List (Option AskedHost)) (h : AskedConnection)
     → slice_get (begun_to i c hosts) c ≡ Some h
     → (host : Option AskedHost) × (slice_get hosts c ≡ Some host) × (h ≡ fresh_host i host)
 next_fresh i c [] h get = absurd (cc)
@@ -50,10 +51,10 @@ begun_size i (suc n) (x ∷ hosts) = ap suc (begun_size i n hosts)
 -- ---- one connection
 
 -- a connection with its first course, and these events and tasks; or with its first tasks
-abbrev with_both : Inquiry → Option AskedHost → List pool.Event → List Task → HostState
+abbrev with_both : Inquiry → Option AskedHost → List pool.Event → List Task → AskedConnection
 with_both i host evs tasks = record { course = course_of i host; events = evs; tasks = tasks }
 
-abbrev with_events : Inquiry → Option AskedHost → List pool.Event → HostState
+abbrev with_events : Inquiry → Option AskedHost → List pool.Event → AskedConnection
 with_events i host evs = with_both i host evs (first_ruling (addresses_of host) i.start).tasks
 
 none_first : (stage : Stage) → ending_of stage ≡ None → first_events stage ≡ []
@@ -81,10 +82,10 @@ module _ (c : ℕ) (old new : Asking) (p : Course) (lt : c < length old.meta.poo
     (at : slice_get old.clock.courses.items c ≡ Some p)
   where
     module _ (i : Inquiry) (o : Holds i (begun_to i c i.hosts) old) where
-      abbrev hosts : List HostState
+      abbrev hosts : List AskedConnection
       hosts = begun_to i c i.hosts
 
-      here : (h : HostState) × (slice_get hosts c ≡ Some h)
+      here : (h : AskedConnection) × (slice_get hosts c ≡ Some h)
       here = host_at i hosts old c o lt
 
       next : (host : Option AskedHost) × (slice_get i.hosts c ≡ Some host) × (here.0 ≡ fresh_host i host)
@@ -93,9 +94,9 @@ module _ (c : ℕ) (old new : Asking) (p : Course) (lt : c < length old.meta.poo
       course_is : p ≡ course_of i next.0
       course_is =
           let was : slice_get old.clock.courses.items c ≡ Some here.0.course =
-          ap (λ l. slice_get l c) o.courses ∙ get_map (λ (x : HostState). x.course) hosts c here.0 here.1 in
+          ap (λ l. slice_get l c) o.courses ∙ get_map (λ (x : AskedConnection). x.course) hosts c here.0 here.1 in
           let e : p ≡ here.0.course = cc in
-          e ∙ ap (λ (x : HostState). x.course) next.2
+          e ∙ ap (λ (x : AskedConnection). x.course) next.2
 
       more : slice_set hosts c (first_host i next.0) ≡ begun_to i (c + 1) i.hosts
       more = sym (one_more i c i.hosts next.0 next.1) ∙ ap (λ n. begun_to i n i.hosts) (sym (add-one c))
@@ -128,7 +129,7 @@ module _ (c : ℕ) (old new : Asking) (p : Course) (lt : c < length old.meta.poo
         let quiet : tasks ++ sends false [] (closing ending []) ≡ tasks =
         ap (λ l. tasks ++ l) (closing_sends ending) ∙ append-nil tasks in
         let same : talked_host false h ev ≡ first_host i host =
-        ap (talked_host false h) is ∙ ap (λ (x : HostState). talked_host false x (closing ending x.events)) (next i o).2
+        ap (talked_host false h) is ∙ ap (λ (x : AskedConnection). talked_host false x (closing ending x.events)) (next i o).2
         ∙ ap (with_both i host (closing ending [])) quiet ∙ ap (with_events i host) (sym first) in
         subst (λ l. Holds i l new) (ap (slice_set (begun_to i c i.hosts) c) same ∙ more i o)
         (talked i (begun_to i c i.hosts) old new c (IsClosed ending) false h q.0 o (here i o).1 q.1 t)

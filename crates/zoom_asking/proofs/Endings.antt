@@ -15,7 +15,7 @@ use Rattle.zoom_clock.specs.declared.signal.Ending.{Ending}
 use Rattle.zoom_clock.specs.declared.signal.Ending.TheVariants as endings
 use Rattle.zoom_clock.specs.declared.signal.Signal.{Signal}
 use Rattle.zoom_clock.specs.declared.signal.Signal.TheVariants as signals
-use Rattle.zoom_clock.specs.declared.signal.Standing.TheVariants as standings
+use Rattle.zoom_clock.specs.declared.signal.Condition.TheVariants as conditions
 use Rattle.zoom_clock.specs.declared.stage.Stage.{Stage}
 use Rattle.zoom_clock.specs.declared.stage.Stage.TheVariants.{NotChosen, Connecting, Talking, Over}
 use Rattle.zoom_clock.specs.declared.attempts.Attempts.{Attempts}
@@ -26,8 +26,8 @@ use Rattle.zoom_clock.specs.Stages.{ruling, first_ruling}
 use Rattle.zoom_asking.specs.declared.inquiry.AskedHost.{AskedHost}
 use Rattle.zoom_asking.specs.Changes.{change_between}
 use Rattle.zoom_asking.specs.Inquiries.{Inquiry, Event, Told, Came, Noted, addresses_of}
-use Rattle.zoom_asking.specs.Talks.{IsDriven, IsStanding, IsClosed, standing_in}
-use Rattle.zoom_asking.specs.Hosts.{HostState, HostAfter, AfterChange, IsNoted, IsFed, IsTold, first_events}
+use Rattle.zoom_asking.specs.Talks.{IsDriven, IsCondition, IsClosed, condition_in}
+use Rattle.zoom_asking.specs.Hosts.{AskedConnection, AskedAfter, AfterChange, IsNoted, IsFed, IsTold, first_events}
 use Rattle.zoom_asking.specs.Laws.{IsReported, AreReported}
 use Rattle.zoom_asking.proofs.Drying.{IsOver, IsDriedUp, HasEnded, stop_ends, end_ends, taken_dries, first_dries}
 use Rattle.zoom_asking.proofs.Rulings.{FromConnecting, connecting_leads, IsEndBy, FromTalking, talking_leads, stage_next}
@@ -43,22 +43,22 @@ FitsStage s (Over ending) events = HasEnded s events
 
 -- what the signal says of octets is how the connection stands after these events
 abbrev IsFaithful : MetaSettings → List pool.Event → Signal → Type 0
-IsFaithful s events (signals.Octets standing) = IsStanding s events standing
+IsFaithful s events (signals.Octets condition) = IsCondition s events condition
 IsFaithful s events _ = Unit {0}
 
-standing_finished : (state : State) → standings.Finished ≡ standing_in state → is_stopped state ≡ true
-standing_finished states.Fresh is = absurd cc
-standing_finished states.Initialising is = absurd cc
-standing_finished (states.Ready v3 concurrent named) is = absurd cc
-standing_finished states.Closing is = absurd cc
-standing_finished states.Closed is = refl
-standing_finished (states.Failed reason) is = refl
+condition_finished : (state : State) → conditions.Finished ≡ condition_in state → is_stopped state ≡ true
+condition_finished states.Fresh is = absurd cc
+condition_finished states.Initialising is = absurd cc
+condition_finished (states.Ready v3 concurrent named) is = absurd cc
+condition_finished states.Closing is = absurd cc
+condition_finished states.Closed is = refl
+condition_finished (states.Failed reason) is = refl
 
 -- Octets have ended it, so it is Closed or Failed.
 finished_ends : (s : MetaSettings) (events : List pool.Event) (what : Signal) → IsFaithful s events what
-    → what ≡ signals.Octets standings.Finished → HasEnded s events
+    → what ≡ signals.Octets conditions.Finished → HasEnded s events
 finished_ends s events what faithful is p t =
-    standing_finished (state_at p) (subst (IsFaithful s events) is faithful p t)
+    condition_finished (state_at p) (subst (IsFaithful s events) is faithful p t)
 
 -- A connection that is talked with was closed.
 closed_ends : OneInput → (s : MetaSettings) (question : Question) (what : Signal) (ending : Ending)
@@ -134,14 +134,14 @@ module _ (meeting : OneInput) (s : MetaSettings) (question : Question) (what : S
 
 -- the stage stays, or is that of the ruling
 next_stage : (s : MetaSettings) (question : Question) (at : ℕ) (what : Signal) (events : List pool.Event)
-    (old new : HostState) → IsNoted s question at what events old new
+    (old new : AskedConnection) → IsNoted s question at what events old new
     → (new.course.stage ≡ old.course.stage) ⊎ (new.course.stage ≡ (ruling_of (event at what) old.course).stage)
 next_stage s question at what events old new noted =
     subst (λ (z : Course). (z.stage ≡ old.course.stage) ⊎ (z.stage ≡ (ruling_of (event at what) old.course).stage))
     (sym noted.course) (stage_next (event at what) old.course)
 
 noted_fits : OneInput → (s : MetaSettings) (question : Question) (at : ℕ) (what : Signal) (events : List pool.Event)
-    (old new : HostState) → IsFaithful s events what → IsNoted s question at what events old new
+    (old new : AskedConnection) → IsFaithful s events what → IsNoted s question at what events old new
     → FitsStage s old.course.stage events → FitsStage s new.course.stage new.events
 noted_fits meeting s question at what events old new faithful noted fits =
     ruled meeting s question what events new.events faithful old.course.limits old.course.start
@@ -152,7 +152,7 @@ noted_fits meeting s question at what events old new faithful noted fits =
 
 faithful_told : (s : MetaSettings) (events : List pool.Event) (what : Signal) → IsReported (Noted what)
     → IsFaithful s events what
-faithful_told s events (signals.Octets standing) reported = absurd reported
+faithful_told s events (signals.Octets condition) reported = absurd reported
 faithful_told s events (signals.Connected k) reported = tt
 faithful_told s events (signals.Unreachable k) reported = tt
 faithful_told s events (signals.NoSocket k) reported = tt
@@ -164,19 +164,19 @@ faithful_told s events signals.Turn reported = tt
 faithful_told s events signals.GiveUp reported = tt
 faithful_told s events signals.Tick reported = tt
 
-abbrev Fits : MetaSettings → HostState → Type 0
+abbrev Fits : MetaSettings → AskedConnection → Type 0
 Fits s h = FitsStage s h.course.stage h.events
 
-fed_fits : OneInput → (s : MetaSettings) (question : Question) (at : ℕ) (piece : List ℕ) (old new : HostState)
+fed_fits : OneInput → (s : MetaSettings) (question : Question) (at : ℕ) (piece : List ℕ) (old new : AskedConnection)
     (stage : Stage) → old.course.stage ≡ stage → IsFed s question at piece stage old new → Fits s old → Fits s new
 fed_fits meeting s question at piece old new NotChosen is same fits = subst (Fits s) (sym same) fits
 fed_fits meeting s question at piece old new (Connecting a) is same fits = subst (Fits s) (sym same) fits
 fed_fits meeting s question at piece old new (Over ending) is same fits = subst (Fits s) (sym same) fits
 fed_fits meeting s question at piece old new (Talking t) is had fits =
-    noted_fits meeting s question at (signals.Octets had.standing) had.heard old new had.stands had.noted
+    noted_fits meeting s question at (signals.Octets had.condition) had.heard old new had.stands had.noted
     (subst (λ z. FitsStage s z had.heard) (sym is) (taken_dries meeting had.hears))
 
-told_fits : OneInput → (s : MetaSettings) (question : Question) (at : ℕ) (told : Told) (old new : HostState)
+told_fits : OneInput → (s : MetaSettings) (question : Question) (at : ℕ) (told : Told) (old new : AskedConnection)
     → IsReported told → IsTold s question at told old new → Fits s old → Fits s new
 told_fits meeting s question at (Came piece) old new reported fed fits =
     fed_fits meeting s question at piece old new old.course.stage refl fed fits
@@ -191,7 +191,7 @@ first_fits s (Some (suc more)) start = refl
 
 -- The events of a connection fit its stage, after each history.
 pub host_fits : OneInput → (i : Inquiry) (host : Option AskedHost) (question : Question) (es : List Event)
-    (h : HostState) → AreReported es → HostAfter i host question es h → Fits i.settings h
+    (h : AskedConnection) → AreReported es → AskedAfter i host question es h → Fits i.settings h
 host_fits meeting i host question [] h reported is =
     subst (Fits i.settings) (sym is) (first_fits i.settings (addresses_of host) i.start)
 host_fits meeting i host question (e ∷ es) h reported after =
@@ -200,17 +200,17 @@ host_fits meeting i host question (e ∷ es) h reported after =
 
 -- A connection that is over is Closed or Failed.
 pub over_ends : OneInput → (i : Inquiry) (host : Option AskedHost) (question : Question) (es : List Event)
-    (h : HostState) (ending : Ending) (p : Transcript) → AreReported es → HostAfter i host question es h
-    → h.course.stage ≡ Over ending → IsTranscript (settings_of i.settings) h.events p → IsOver p
-over_ends meeting i host question es h ending p reported after is =
-    subst (λ z. FitsStage i.settings z h.events) is (host_fits meeting i host question es h reported after) p
+    (h : AskedConnection) (ending : Ending) → AreReported es → AskedAfter i host question es h
+    → h.course.stage ≡ Over ending → HasEnded i.settings h.events
+over_ends meeting i host question es h ending reported after is =
+    subst (λ z. FitsStage i.settings z h.events) is (host_fits meeting i host question es h reported after)
 
 -- ---- a connection that is not chosen
 
-abbrev IsUnasked : HostState → Type 0
+abbrev IsUnasked : AskedConnection → Type 0
 IsUnasked h = (h.events ≡ []) × (h.course.stage ≡ NotChosen)
 
-noted_unasked : (s : MetaSettings) (question : Question) (at : ℕ) (what : Signal) (old new : HostState)
+noted_unasked : (s : MetaSettings) (question : Question) (at : ℕ) (what : Signal) (old new : AskedConnection)
     → IsNoted s question at what old.events old new → IsUnasked old → IsUnasked new
 noted_unasked s question at what old new noted u =
     (same ∙ u.0, by (next_stage s question at what old.events old new noted))
@@ -225,13 +225,13 @@ noted_unasked s question at what old new noted u =
     by (inr is) = is ∙ ap (λ z. (ruling old.course.limits old.course.start (time_of (event at what) old.course)
         old.course.wanted what z).stage) u.1
 
-told_unasked : (s : MetaSettings) (question : Question) (at : ℕ) (told : Told) (old new : HostState)
+told_unasked : (s : MetaSettings) (question : Question) (at : ℕ) (told : Told) (old new : AskedConnection)
     → IsTold s question at told old new → IsUnasked old → IsUnasked new
 told_unasked s question at (Came piece) old new fed u =
     subst IsUnasked (sym (subst (λ z. IsFed s question at piece z old new) u.1 fed)) u
 told_unasked s question at (Noted what) old new noted u = noted_unasked s question at what old new noted u
 
-pub unasked : (i : Inquiry) (question : Question) (es : List Event) (h : HostState) → HostAfter i None question es h
+pub unasked : (i : Inquiry) (question : Question) (es : List Event) (h : AskedConnection) → AskedAfter i None question es h
     → (h.events ≡ []) × (h.course.stage ≡ NotChosen)
 unasked i question [] h is = subst IsUnasked (sym is) (refl, refl)
 unasked i question (e ∷ es) h after =

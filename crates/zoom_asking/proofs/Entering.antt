@@ -9,24 +9,24 @@ use Rattle.zoom_clock.specs.Clocks.{IsOrderly}
 use Rattle.zoom_asking.specs.declared.asking.Asking.{Asking}
 use Rattle.zoom_asking.specs.Buffers.{octets_in}
 use Rattle.zoom_asking.specs.Inquiries.{Inquiry, Told, Reported, event_from, own_event, passed_in}
-use Rattle.zoom_asking.specs.Hosts.{HostState, IsTold}
+use Rattle.zoom_asking.specs.Hosts.{AskedConnection, IsTold}
 use Rattle.zoom_asking.specs.Askings.{Holds, IsToldIf, AreTold, IsEntered, KeepsHistories, HasTurned, after_turns, tasks_for}
 use Rattle.zoom_pool.specs.Metas.{MetaAfter}
 
 -- one connection was told something at a time
 abbrev pub IsOne : ℕ → ℕ → Told → Asking → Asking → Type 0
 IsOne c at told old new =
-    (i : Inquiry) (hosts : List HostState) (h : HostState) (question : Question) → Holds i hosts old
+    (i : Inquiry) (hosts : List AskedConnection) (h : AskedConnection) (question : Question) → Holds i hosts old
     → slice_get hosts c ≡ Some h → slice_get i.questions c ≡ Some question
-    → (g : HostState) × IsTold i.settings question at told h g × Holds i (slice_set hosts c g) new
+    → (g : AskedConnection) × IsTold i.settings question at told h g × Holds i (slice_set hosts c g) new
 
 -- each connection has a host and a question
-pub host_at : (i : Inquiry) (hosts : List HostState) (a : Asking) (c : ℕ) → Holds i hosts a
-    → c < length a.meta.pool.connections → (h : HostState) × (slice_get hosts c ≡ Some h)
+pub host_at : (i : Inquiry) (hosts : List AskedConnection) (a : Asking) (c : ℕ) → Holds i hosts a
+    → c < length a.meta.pool.connections → (h : AskedConnection) × (slice_get hosts c ≡ Some h)
 host_at i hosts a c o lt =
     let few : c < length hosts = let s = o.size in let m = o.meta.size in omega arith in some_at hosts c few
 
-pub question_at : (i : Inquiry) (hosts : List HostState) (a : Asking) (c : ℕ) → Holds i hosts a
+pub question_at : (i : Inquiry) (hosts : List AskedConnection) (a : Asking) (c : ℕ) → Holds i hosts a
     → c < length a.meta.pool.connections → (q : Question) × (slice_get i.questions c ≡ Some q)
 question_at i hosts a c o lt =
     let few : c < length i.questions = let m = o.meta.size in omega arith in some_at i.questions c few
@@ -42,7 +42,7 @@ told_elsewhere : (c d passed now : ℕ) (told : Told) → (c ≡ d → ⊥) → 
 told_elsewhere c d passed now told n =
     elim (eqb_tells c d) [ inl t ↦ absurd (n t.1) | inr f ↦ ap (λ b. cond b (Some (event_from passed now told)) None) f.0 ]
 
-one_told : (i : Inquiry) (passed now c : ℕ) (told : Told) (hosts : List HostState) (h g : HostState) (question : Question)
+one_told : (i : Inquiry) (passed now c : ℕ) (told : Told) (hosts : List AskedConnection) (h g : AskedConnection) (question : Question)
     → slice_get hosts c ≡ Some h → slice_get i.questions c ≡ Some question
     → IsTold i.settings question (max passed now) told h g → AreTold i passed (Reported now c told) hosts (slice_set hosts c g)
 one_told i passed now c told hosts h g question at asked is = record {
@@ -50,7 +50,7 @@ one_told i passed now c told hosts h g question at asked is = record {
   each = λ d q x y askq atx aty. by d q x y askq atx (get_set hosts c d g y aty);
 }
   where
-    by : (d : ℕ) (q : Question) (x y : HostState) → slice_get i.questions d ≡ Some q → slice_get hosts d ≡ Some x
+    by : (d : ℕ) (q : Question) (x y : AskedConnection) → slice_get i.questions d ≡ Some q → slice_get hosts d ≡ Some x
         → ((d ≡ c) × (g ≡ y)) ⊎ ((d ≡ c → ⊥) × (slice_get hosts d ≡ Some y))
         → IsToldIf i q (own_event d passed (Reported now c told)) x y
     by d q x y askq atx (inl s) =

@@ -6,11 +6,8 @@ use Rattle.zoom_pool.specs.Transcripts.{Event, given}
 use Rattle.zoom_pool.specs.History.{History, events_on}
 use Rattle.zoom_pool.specs.Metas.{MetaLinks, MetaAfter, MetaRecorded}
 use Rattle.zoom_pool.proofs.Pools.{only_same, only_other}
+use Rattle.zoom_asking.specs.Talks.{Relation}
 use Rattle.zoom_asking.specs.Steps.{Extended, IsExtended}
-
--- how the events of a connection are related to those before
-abbrev pub Relation : Type 1
-Relation = MetaSettings → Question → List Event → List Event → Type 0
 
 -- ---- one event
 

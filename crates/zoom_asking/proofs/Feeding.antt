@@ -13,33 +13,33 @@ use Rattle.zoom_clock.specs.declared.clock.Clock.{Clock}
 use Rattle.zoom_clock.specs.declared.course.Course.{Course}
 use Rattle.zoom_clock.specs.Clocks.{IsOrderly}
 use Rattle.zoom_clock.specs.declared.signal.Signal.TheVariants as signals
-use Rattle.zoom_clock.specs.declared.signal.Standing.{Standing}
+use Rattle.zoom_clock.specs.declared.signal.Condition.{Condition}
 use Rattle.zoom_clock.specs.declared.stage.Stage.{Stage}
 use Rattle.zoom_clock.specs.declared.stage.Stage.TheVariants.{NotChosen, Connecting, Talking, Over}
 use Rattle.zoom_clock.specs.Courses.{event, tasks_of}
-use Rattle.zoom_clock.proofs.Places.{get_set_same, get_set_other}
+use Rattle.zoom_clock.proofs.Places.{get_set_same, get_set_other, set_same, set_set}
 use Rattle.zoom_asking.specs.declared.asking.Asking.{Asking}
 use Rattle.zoom_asking.specs.Buffers.{octets_in}
 use Rattle.zoom_asking.specs.Changes.{lost_of}
 use Rattle.zoom_asking.specs.Inquiries.{Inquiry}
-use Rattle.zoom_asking.specs.Steps.{IsStandingAt}
-use Rattle.zoom_asking.specs.Talks.{IsHeard, IsStanding}
-use Rattle.zoom_asking.specs.Hosts.{HostState, HasHeard, IsFed, IsNoted, is_lost_at, sends}
+use Rattle.zoom_asking.specs.Steps.{IsConditionAt}
+use Rattle.zoom_asking.specs.Talks.{IsHeard, IsCondition}
+use Rattle.zoom_asking.specs.Hosts.{AskedConnection, HasHeard, IsFed, IsNoted, is_lost_at, sends}
 use Rattle.zoom_asking.specs.Askings.{Holds, IsOneFed, IsOneTold, IsTalkedOn, KeepsHistories, tasks_for, unsent_at}
-use Rattle.zoom_asking.proofs.Holding.{events, related, talked, talked_host, set_same, get_map}
-use Rattle.zoom_asking.proofs.Telling.{no_sends, set_set}
+use Rattle.zoom_asking.proofs.Holding.{events, related, talked, talked_host, get_map}
+use Rattle.zoom_asking.proofs.Telling.{no_sends}
 
 -- the course of the clock is that of the connection
-course_is : (i : Inquiry) (hosts : List HostState) (a : Asking) (c : ℕ) (p : Course) (h : HostState) → Holds i hosts a
+course_is : (i : Inquiry) (hosts : List AskedConnection) (a : Asking) (c : ℕ) (p : Course) (h : AskedConnection) → Holds i hosts a
     → slice_get a.clock.courses.items c ≡ Some p → slice_get hosts c ≡ Some h → p ≡ h.course
 course_is i hosts a c p h o here get =
     let there : slice_get a.clock.courses.items c ≡ Some h.course =
-    ap (λ l. slice_get l c) o.courses ∙ get_map (λ (x : HostState). x.course) hosts c h get in
+    ap (λ l. slice_get l c) o.courses ∙ get_map (λ (x : AskedConnection). x.course) hosts c h get in
     cc
 
 -- ---- a connection that is not talked with
 
-not_talking : (s : MetaSettings) (q : Question) (at : ℕ) (piece : List ℕ) (h : HostState) (stage : Stage)
+not_talking : (s : MetaSettings) (q : Question) (at : ℕ) (piece : List ℕ) (h : AskedConnection) (stage : Stage)
     → lost_of stage ≡ None → IsFed s q at piece stage h h
 not_talking s q at piece h NotChosen e = refl
 not_talking s q at piece h (Connecting a) e = refl
@@ -57,7 +57,7 @@ not_fed c at piece a p here none i hosts h q o get asked =
 
 -- ---- a connection that is talked with
 
-is_fed : (s : MetaSettings) (q : Question) (at : ℕ) (piece : List ℕ) (old new : HostState) (stage : Stage) (lost : Bool)
+is_fed : (s : MetaSettings) (q : Question) (at : ℕ) (piece : List ℕ) (old new : AskedConnection) (stage : Stage) (lost : Bool)
     → lost_of stage ≡ Some lost → HasHeard s q at piece old new → IsFed s q at piece stage old new
 is_fed s q at piece old new NotChosen lost e has = absurd (cc)
 is_fed s q at piece old new (Connecting a) lost e has = absurd (cc)
@@ -71,37 +71,37 @@ same_lost (Talking t) lost e = cc
 same_lost (Over ending) lost e = absurd (cc)
 
 -- what was noted after octets were heard
-noted_heard : (s : MetaSettings) (q : Question) (at : ℕ) (standing : Standing) (lost : Bool) (h g : HostState)
+noted_heard : (s : MetaSettings) (q : Question) (at : ℕ) (condition : Condition) (lost : Bool) (h g : AskedConnection)
     (heard : List pool.Event) → is_lost_at h.course.stage ≡ lost
-    → IsNoted s q at (signals.Octets standing) heard (talked_host lost h heard) g
-    → IsNoted s q at (signals.Octets standing) heard h g
-noted_heard s q at standing lost h g heard is n = record {
+    → IsNoted s q at (signals.Octets condition) heard (talked_host lost h heard) g
+    → IsNoted s q at (signals.Octets condition) heard h g
+noted_heard s q at condition lost h g heard is n = record {
   course = n.course;
   changed = n.changed;
   tasks = n.tasks
-      ∙ ap (λ l. (h.tasks ++ sends lost h.events heard) ++ l ++ tasks_of (event at (signals.Octets standing)) h.course
+      ∙ ap (λ l. (h.tasks ++ sends lost h.events heard) ++ l ++ tasks_of (event at (signals.Octets condition)) h.course
       ++ sends false heard g.events) (no_sends (is_lost_at h.course.stage) heard)
-      ∙ ap (λ l. l ++ tasks_of (event at (signals.Octets standing)) h.course ++ sends false heard g.events)
+      ∙ ap (λ l. l ++ tasks_of (event at (signals.Octets condition)) h.course ++ sends false heard g.events)
       (append-nil (h.tasks ++ sends lost h.events heard))
-      ∙ ap (λ b. h.tasks ++ sends b h.events heard ++ tasks_of (event at (signals.Octets standing)) h.course
+      ∙ ap (λ b. h.tasks ++ sends b h.events heard ++ tasks_of (event at (signals.Octets condition)) h.course
       ++ sends false heard g.events) (sym is);
 }
 
-module _ (c at : ℕ) (piece : List ℕ) (old mid new : Asking) (p : Course) (lost : Bool) (standing : Standing)
+module _ (c at : ℕ) (piece : List ℕ) (old mid new : Asking) (p : Course) (lost : Bool) (condition : Condition)
     (here : slice_get old.clock.courses.items c ≡ Some p) (is : lost_of p.stage ≡ Some lost)
-    (t : IsTalkedOn c (IsHeard piece) lost old mid) (stands : IsStandingAt c mid.meta standing)
-    (told : IsOneTold c at (signals.Octets standing) mid new)
+    (t : IsTalkedOn c (IsHeard piece) lost old mid) (stands : IsConditionAt c mid.meta condition)
+    (told : IsOneTold c at (signals.Octets condition) mid new)
   where
-    module _ (i : Inquiry) (hosts : List HostState) (h : HostState) (q : Question) (o : Holds i hosts old)
+    module _ (i : Inquiry) (hosts : List AskedConnection) (h : AskedConnection) (q : Question) (o : Holds i hosts old)
         (get : slice_get hosts c ≡ Some h) (asked : slice_get i.questions c ≡ Some q)
       where
         abbrev heard : List pool.Event
         heard = events i hosts old mid c (IsHeard piece) lost h q o get asked t
 
-        abbrev k : HostState
+        abbrev k : AskedConnection
         k = talked_host lost h heard
 
-        abbrev hosts1 : List HostState
+        abbrev hosts1 : List AskedConnection
         hosts1 = slice_set hosts c k
 
         o1 : Holds i hosts1 mid
@@ -110,7 +110,7 @@ module _ (c at : ℕ) (piece : List ℕ) (old mid new : Asking) (p : Course) (lo
         at1 : slice_get hosts1 c ≡ Some k
         at1 = get_set_same hosts c k (slice_get_within hosts c h get)
 
-        next : (g : HostState) × IsNoted i.settings q at (signals.Octets standing) heard k g × Holds i (slice_set hosts1 c g) new
+        next : (g : AskedConnection) × IsNoted i.settings q at (signals.Octets condition) heard k g × Holds i (slice_set hosts1 c g) new
         next = told i hosts1 k q o1 at1 asked
 
         lost_here : lost_of h.course.stage ≡ Some lost
@@ -120,13 +120,13 @@ module _ (c at : ℕ) (piece : List ℕ) (old mid new : Asking) (p : Course) (lo
         has = record {
           heard = heard;
           hears = related i hosts old mid c (IsHeard piece) lost h q o get asked t;
-          standing = standing;
-          stands = subst (λ l. IsStanding i.settings l standing) (o1.events c k at1)
+          condition = condition;
+          stands = subst (λ l. IsCondition i.settings l condition) (o1.events c k at1)
               (stands i.questions i.settings o1.pool o1.meta);
-          noted = noted_heard i.settings q at standing lost h next.0 heard (same_lost h.course.stage lost lost_here) next.1;
+          noted = noted_heard i.settings q at condition lost h next.0 heard (same_lost h.course.stage lost lost_here) next.1;
         }
 
-        fed_here : (g : HostState) × IsFed i.settings q at piece h.course.stage h g × Holds i (slice_set hosts c g) new
+        fed_here : (g : AskedConnection) × IsFed i.settings q at piece h.course.stage h g × Holds i (slice_set hosts c g) new
         fed_here = (
           next.0,
           is_fed i.settings q at piece h next.0 h.course.stage lost lost_here has,
@@ -165,7 +165,7 @@ taken_out c old new before after at set empty meta clock i history a =
     none = ap (λ l. octets_in (slice_get l c)) set
         ∙ ap octets_in (get_set_same old.unsent.items c after (slice_get_within old.unsent.items c before at)) ∙ empty
 
-    by : (d : ℕ) (h : HostState) → ((out : List ℕ) × (given h.events ≡ out ++ unsent_at old d))
+    by : (d : ℕ) (h : AskedConnection) → ((out : List ℕ) × (given h.events ≡ out ++ unsent_at old d))
         → (((d == c) ≡ true) × (d ≡ c)) ⊎ (((d == c) ≡ false) × (d ≡ c → ⊥))
         → (out : List ℕ) × (given h.events ≡ out ++ unsent_at new d)
     by d h u (inl s) = (

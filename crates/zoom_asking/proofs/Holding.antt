@@ -1,7 +1,8 @@
 -- What the asking holds, after one connection changed.
 use Rattle.std.proofs.Common.{◌≡◌, ◌⊎◌, inl, inr, ℕ, zero, suc, Bool, cond, not, List, [], ◌∷◌, ◌++◌, map, length, Some, refl, sym, ap, subst, ◌∙◌, arith, append_assoc, append-nil, length-append}
 use Rattle.std.proofs.lemmas.Bool.Decides.{nat_tests}
-use Rattle.std.specs.Prelude.{slice_get, slice_set, nat_lt, ◌&&◌}
+use Rattle.std.proofs.lemmas.Option.{slice_get-map}
+use Rattle.std.specs.Prelude.{slice_get, slice_set, nat_lt, ◌&&◌, option_map}
 use Rattle.zoom_questions.specs.declared.question.Question.{Question}
 use Rattle.zoom_questions.specs.declared.question.MetaSettings.{MetaSettings}
 use Rattle.zoom_pool.specs.Transcripts as pool
@@ -16,33 +17,21 @@ use Rattle.zoom_clock.specs.Actions.{all_for}
 use Rattle.zoom_clock.specs.Clocks.{AfterNote}
 use Rattle.zoom_clock.specs.Courses as clock
 use Rattle.zoom_clock.specs.Courses.{step, tasks_of}
-use Rattle.zoom_clock.proofs.Places.{get_set, length_set}
+use Rattle.zoom_clock.proofs.Places.{get_set, length_set, map_set, set_same}
 use Rattle.zoom_asking.specs.declared.asking.Asking.{Asking}
 use Rattle.zoom_asking.specs.Buffers.{octets_in}
 use Rattle.zoom_asking.specs.Inquiries.{Inquiry}
 use Rattle.zoom_asking.specs.Steps.{Extended}
-use Rattle.zoom_asking.specs.Hosts.{HostState, sends}
-use Rattle.zoom_asking.specs.Askings.{Holds, IsTalkedOn, new_sends, tasks_for, unsent_at}
-use Rattle.zoom_asking.proofs.Queues.{other_number, tasks_append, tasks_same, tasks_other}
+use Rattle.zoom_asking.specs.Hosts.{new_sends, AskedConnection, sends}
+use Rattle.zoom_asking.specs.Askings.{Holds, IsTalkedOn, tasks_for, unsent_at}
+use Rattle.zoom_asking.proofs.Queues.{not_same, tasks_append, tasks_same, tasks_other}
 
-abbrev course_in : HostState → Course
+abbrev course_in : AskedConnection → Course
 course_in h = h.course
 
--- a function of the elements, of a list with one changed
-pub map_set : {A B : Type 0} (f : A → B) (xs : List A) (c : ℕ) (v : A) → map f (slice_set xs c v) ≡ slice_set (map f xs) c (f v)
-map_set f [] c v = refl
-map_set f (x ∷ xs) zero v = refl
-map_set f (x ∷ xs) (suc c) v = ap (λ l. f x ∷ l) (map_set f xs c v)
-
-pub set_same : {A : Type 0} (xs : List A) (c : ℕ) (v : A) → slice_get xs c ≡ Some v → slice_set xs c v ≡ xs
-set_same [] c v get = refl
-set_same (x ∷ xs) zero v get = let e : v ≡ x = cc in ap (λ y. y ∷ xs) e
-set_same (x ∷ xs) (suc c) v get = ap (λ l. x ∷ l) (set_same xs c v get)
-
+-- what a function gives of an element
 pub get_map : {A B : Type 0} (f : A → B) (xs : List A) (c : ℕ) (v : A) → slice_get xs c ≡ Some v → slice_get (map f xs) c ≡ Some (f v)
-get_map f [] c v get = absurd (cc)
-get_map f (x ∷ xs) zero v get = let e : x ≡ v = cc in ap (λ y. Some (f y)) e
-get_map f (x ∷ xs) (suc c) v get = get_map f xs c v get
+get_map f xs c v get = slice_get-map f xs c ∙ ap (option_map f) get
 
 -- ---- what waits to be sent
 
@@ -83,12 +72,12 @@ queue_other c d done before after ts own n put was =
 -- ---- a connection was talked with
 
 -- the same connection, after it was talked with
-abbrev pub talked_host : Bool → HostState → List pool.Event → HostState
+abbrev pub talked_host : Bool → AskedConnection → List pool.Event → AskedConnection
 talked_host lost h events = record { course = h.course; events = events; tasks = h.tasks ++ sends lost h.events events }
 
 module _
-    (i : Inquiry) (hosts : List HostState) (old new : Asking) (c : ℕ)
-    (R : MetaSettings → Question → List pool.Event → List pool.Event → Type 0) (lost : Bool) (h : HostState)
+    (i : Inquiry) (hosts : List AskedConnection) (old new : Asking) (c : ℕ)
+    (R : MetaSettings → Question → List pool.Event → List pool.Event → Type 0) (lost : Bool) (h : AskedConnection)
     (question : Question) (o : Holds i hosts old) (at : slice_get hosts c ≡ Some h)
     (asked : slice_get i.questions c ≡ Some question) (t : IsTalkedOn c R lost old new)
   where
@@ -99,7 +88,7 @@ module _
     unfolding x
     events = events_on c x.more
 
-    abbrev g : HostState
+    abbrev g : AskedConnection
     g = talked_host lost h events
 
     mine : events_on c o.pool ≡ h.events
@@ -129,32 +118,32 @@ module _
       in_order = t.clock.in_order ∙ o.in_order;
     }
       where
-        by_events : (d : ℕ) (k : HostState) → ((d ≡ c) × (g ≡ k)) ⊎ ((d ≡ c → ⊥) × (slice_get hosts d ≡ Some k))
+        by_events : (d : ℕ) (k : AskedConnection) → ((d ≡ c) × (g ≡ k)) ⊎ ((d ≡ c → ⊥) × (slice_get hosts d ≡ Some k))
             → events_on d x.more ≡ k.events
-        by_events d k (inl s) = ap (λ n. events_on n x.more) s.0 ∙ ap (λ (y : HostState). y.events) s.1
-        by_events d k (inr n) = x.others d (other_number c d (λ e. n.0 (sym e))) ∙ o.events d k n.1
+        by_events d k (inl s) = ap (λ n. events_on n x.more) s.0 ∙ ap (λ (y : AskedConnection). y.events) s.1
+        by_events d k (inr n) = x.others d (not_same c d (λ e. n.0 (sym e))) ∙ o.events d k n.1
 
-        by_unsent : (d : ℕ) (k : HostState) → ((d ≡ c) × (g ≡ k)) ⊎ ((d ≡ c → ⊥) × (slice_get hosts d ≡ Some k))
+        by_unsent : (d : ℕ) (k : AskedConnection) → ((d ≡ c) × (g ≡ k)) ⊎ ((d ≡ c → ⊥) × (slice_get hosts d ≡ Some k))
             → (out : List ℕ) × (given k.events ≡ out ++ unsent_at new d)
         by_unsent d k (inl s) =
             let u = o.unsent c h at in (
               u.0,
-              ap (λ (y : HostState). given y.events) (sym s.1) ∙ gave ∙ ap (λ l. l ++ x.out) u.1
+              ap (λ (y : AskedConnection). given y.events) (sym s.1) ∙ gave ∙ ap (λ l. l ++ x.out) u.1
                   ∙ append_assoc u.0 (unsent_at old c) x.out ∙ ap (λ l. u.0 ++ l) (sym x.kept)
                   ∙ ap (λ n. u.0 ++ unsent_at new n) (sym s.0),
             )
         by_unsent d k (inr n) =
             let u = o.unsent d k n.1 in
-            (u.0, u.1 ∙ ap (λ l. u.0 ++ l) (sym (t.others d (other_number c d (λ e. n.0 (sym e))))))
+            (u.0, u.1 ∙ ap (λ l. u.0 ++ l) (sym (t.others d (not_same c d (λ e. n.0 (sym e))))))
 
-        by_queue : (d : ℕ) (k : HostState) → ((d ≡ c) × (g ≡ k)) ⊎ ((d ≡ c → ⊥) × (slice_get hosts d ≡ Some k))
+        by_queue : (d : ℕ) (k : AskedConnection) → ((d ≡ c) × (g ≡ k)) ⊎ ((d ≡ c → ⊥) × (slice_get hosts d ≡ Some k))
             → tasks_for d (o.done ++ new.clock.queue.items) ≡ k.tasks
         by_queue d k (inl s) =
             ap (λ n. tasks_for n (o.done ++ new.clock.queue.items)) s.0
             ∙ queue_same c o.done old.clock.queue.items new.clock.queue.items
             (new_sends lost (unsent_at old c) (unsent_at new c)) h.tasks t.clock.queue (o.queue c h at)
             ∙ ap (λ l. h.tasks ++ l) (same_sends lost (unsent_at old c) (unsent_at new c) h.events events x.out x.kept gave)
-            ∙ ap (λ (y : HostState). y.tasks) s.1
+            ∙ ap (λ (y : AskedConnection). y.tasks) s.1
         by_queue d k (inr n) =
             queue_other c d o.done old.clock.queue.items new.clock.queue.items
             (new_sends lost (unsent_at old c) (unsent_at new c)) k.tasks (λ e. n.0 (sym e)) t.clock.queue (o.queue d k n.1)
@@ -162,14 +151,14 @@ module _
 -- ---- the clock noted a signal
 
 -- the same connection, after its clock noted this
-abbrev pub noted_host : clock.Event → HostState → HostState
+abbrev pub noted_host : clock.Event → AskedConnection → AskedConnection
 noted_host e h = record { course = step e h.course; events = h.events; tasks = h.tasks ++ tasks_of e h.course }
 
-module _ (i : Inquiry) (hosts : List HostState) (old new : Asking) (c : ℕ) (e : clock.Event) (h : HostState)
+module _ (i : Inquiry) (hosts : List AskedConnection) (old new : Asking) (c : ℕ) (e : clock.Event) (h : AskedConnection)
     (o : Holds i hosts old) (at : slice_get hosts c ≡ Some h) (n : AfterNote c e old.clock new.clock)
     (meta : new.meta ≡ old.meta) (unsent : new.unsent ≡ old.unsent)
   where
-    abbrev k : HostState
+    abbrev k : AskedConnection
     k = noted_host e h
 
     course_at : slice_get old.clock.courses.items c ≡ Some h.course
@@ -190,30 +179,30 @@ module _ (i : Inquiry) (hosts : List HostState) (old new : Asking) (c : ℕ) (e 
       in_order = n.in_order ∙ o.in_order;
     }
       where
-        by_events : (d : ℕ) (y : HostState) → ((d ≡ c) × (k ≡ y)) ⊎ ((d ≡ c → ⊥) × (slice_get hosts d ≡ Some y))
+        by_events : (d : ℕ) (y : AskedConnection) → ((d ≡ c) × (k ≡ y)) ⊎ ((d ≡ c → ⊥) × (slice_get hosts d ≡ Some y))
             → events_on d o.pool ≡ y.events
         by_events d y (inl s) =
-            ap (λ m. events_on m o.pool) s.0 ∙ o.events c h at ∙ ap (λ (z : HostState). z.events) s.1
+            ap (λ m. events_on m o.pool) s.0 ∙ o.events c h at ∙ ap (λ (z : AskedConnection). z.events) s.1
         by_events d y (inr f) = o.events d y f.1
 
-        by_unsent : (d : ℕ) (y : HostState) → ((d ≡ c) × (k ≡ y)) ⊎ ((d ≡ c → ⊥) × (slice_get hosts d ≡ Some y))
+        by_unsent : (d : ℕ) (y : AskedConnection) → ((d ≡ c) × (k ≡ y)) ⊎ ((d ≡ c → ⊥) × (slice_get hosts d ≡ Some y))
             → (out : List ℕ) × (given y.events ≡ out ++ unsent_at new d)
         by_unsent d y (inl s) =
             let u = o.unsent c h at in (
               u.0,
-              ap (λ (z : HostState). given z.events) (sym s.1) ∙ u.1
+              ap (λ (z : AskedConnection). given z.events) (sym s.1) ∙ u.1
                   ∙ ap (λ b. u.0 ++ octets_in (slice_get b.items c)) (sym unsent) ∙ ap (λ m. u.0 ++ unsent_at new m) (sym s.0),
             )
         by_unsent d y (inr f) =
             let u = o.unsent d y f.1 in (u.0, u.1 ∙ ap (λ b. u.0 ++ octets_in (slice_get b.items d)) (sym unsent))
 
-        by_queue : (d : ℕ) (y : HostState) → ((d ≡ c) × (k ≡ y)) ⊎ ((d ≡ c → ⊥) × (slice_get hosts d ≡ Some y))
+        by_queue : (d : ℕ) (y : AskedConnection) → ((d ≡ c) × (k ≡ y)) ⊎ ((d ≡ c → ⊥) × (slice_get hosts d ≡ Some y))
             → tasks_for d (o.done ++ new.clock.queue.items) ≡ y.tasks
         by_queue d y (inl s) =
             ap (λ m. tasks_for m (o.done ++ new.clock.queue.items)) s.0
             ∙ queue_same c o.done old.clock.queue.items new.clock.queue.items (tasks_of e h.course) h.tasks
             (n.tasks h.course course_at) (o.queue c h at)
-            ∙ ap (λ (z : HostState). z.tasks) s.1
+            ∙ ap (λ (z : AskedConnection). z.tasks) s.1
         by_queue d y (inr f) =
             queue_other c d o.done old.clock.queue.items new.clock.queue.items (tasks_of e h.course) y.tasks
             (λ q. f.0 (sym q)) (n.tasks h.course course_at) (o.queue d y f.1)

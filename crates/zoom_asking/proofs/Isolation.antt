@@ -14,21 +14,21 @@ use Rattle.zoom_asking.specs.declared.inquiry.AskedHost.{AskedHost}
 use Rattle.zoom_asking.specs.declared.inquiry.Manner.{Manner}
 use Rattle.zoom_asking.specs.declared.inquiry.Manner.TheVariants as manners
 use Rattle.zoom_asking.specs.Inquiries.{Inquiry, is_at_once, own}
-use Rattle.zoom_asking.specs.Hosts.{HostState, HostAfter, first_host}
+use Rattle.zoom_asking.specs.Hosts.{AskedConnection, AskedAfter, first_host}
 use Rattle.zoom_asking.specs.Askings.{Holds}
-use Rattle.zoom_asking.specs.Laws.{AgreeOn, IsolationLaw}
+use Rattle.zoom_asking.specs.Laws.{AgreeOn, AskedOn, IsolationLaw}
 use Rattle.zoom_asking.proofs.Owning.{own_of}
 use Rattle.zoom_asking.proofs.Steady.{AreSound}
 use Rattle.zoom_asking.proofs.AlikeDrives.{Laws}
 use Rattle.zoom_asking.proofs.SameHosts.{twins}
 
 -- what an asking knows of a connection: its calls were its driver's, and how many positions one Present asks for
-record IsKnown (i : Inquiry) (question : Question) (h : HostState) : Type 0 where
+record IsKnown (i : Inquiry) (question : Question) (h : AskedConnection) : Type 0 where
   pub sound : AreSound i.settings question h.events
   pub wanted : IsWanted (positions question.wanted)
   pub steps : 0 < i.settings.step
 
-known : (i : Inquiry) (hosts : List HostState) (a : Asking) (c : ℕ) (question : Question) (h : HostState)
+known : (i : Inquiry) (hosts : List AskedConnection) (a : Asking) (c : ℕ) (question : Question) (h : AskedConnection)
     → Holds i hosts a → slice_get i.questions c ≡ Some question → slice_get hosts c ≡ Some h → IsKnown i question h
 known i hosts a c question h k asked at =
     let meta = k.meta in
@@ -66,14 +66,21 @@ same_first c i j host g =
     }) host
 
 pub isolation_of : Laws → IsolationLaw
-isolation_of l c i j g h one other question host x y agree same asked chosen a b at there =
-    let also = sym agree.question ∙ asked in
-    let first = own_of i g a.hosts c question host x agree.first a.after asked chosen at in
-    let second = own_of j h b.hosts c question host y agree.second b.after also (sym agree.host ∙ chosen) there in
-    let here = known i a.hosts one c question x a.holds asked at in
-    let beyond = known j b.hosts other c question y b.holds also there in
+isolation_of l c i j g h one other x y asks agree same a b at there =
+    let question = asks.question in
+    let host = asks.host in
+    let also : AskedOn j c = record {
+      question = question;
+      host = host;
+      has_question = sym agree.question ∙ asks.has_question;
+      has_host = sym agree.host ∙ asks.has_host;
+    } in
+    let first = own_of i g a.hosts c x asks agree.first a.after at in
+    let second = own_of j h b.hosts c y also agree.second b.after there in
+    let here = known i a.hosts one c question x a.holds asks.has_question at in
+    let beyond = known j b.hosts other c question y b.holds also.has_question there in
     let t = twins l i.settings question here.wanted here.steps i j host refl (sym agree.settings)
     (same_first c i j host agree) (own c i.start g) x y first
-    (subst (λ es. HostAfter j host question es y) (sym same) second) here.sound
+    (subst (λ es. AskedAfter j host question es y) (sym same) second) here.sound
     (subst (λ s. AreSound s question y.events) (sym agree.settings) beyond.sound) in
     record { course = t.course; tasks = t.tasks; events = t.kept.same.alike }

@@ -10,8 +10,8 @@ use Rattle.zoom_asking.specs.Askings.{tasks_for}
 pub same_number : (c : ℕ) → (c == c) ≡ true
 same_number c = elim (eqb_tells c c) [ inl e ↦ e.0 | inr e ↦ absurd (e.1 refl) ]
 
-pub other_number : (c d : ℕ) → (c ≡ d → ⊥) → (c == d) ≡ false
-other_number c d n = elim (eqb_tells c d) [ inl e ↦ absurd (n e.1) | inr e ↦ e.0 ]
+pub not_same : (c d : ℕ) → (c ≡ d → ⊥) → (c == d) ≡ false
+not_same c d n = elim (eqb_tells c d) [ inl e ↦ absurd (n e.1) | inr e ↦ e.0 ]
 
 tasks_one : (c : ℕ) (x : Action) (xs : List Action)
     → tasks_for c (x ∷ xs) ≡ cond (x.c == c) (x.task ∷ tasks_for c xs) (tasks_for c xs)
@@ -44,5 +44,5 @@ pub tasks_other : (c d : ℕ) (ts : List Task) → (d ≡ c → ⊥) → tasks_f
 tasks_other c d [] n = refl
 tasks_other c d (t ∷ ts) n =
     tasks_one c (for_connection d t) (all_for d ts)
-    ∙ ap (λ b. cond b (t ∷ tasks_for c (all_for d ts)) (tasks_for c (all_for d ts))) (other_number d c n)
+    ∙ ap (λ b. cond b (t ∷ tasks_for c (all_for d ts)) (tasks_for c (all_for d ts))) (not_same d c n)
     ∙ tasks_other c d ts n

@@ -8,7 +8,7 @@ use Rattle.zoom_clock.specs.declared.signal.Ending.{Ending}
 use Rattle.zoom_clock.specs.declared.signal.Ending.TheVariants as endings
 use Rattle.zoom_clock.specs.declared.signal.Signal.{Signal}
 use Rattle.zoom_clock.specs.declared.signal.Signal.TheVariants as signals
-use Rattle.zoom_clock.specs.declared.signal.Standing.TheVariants as standings
+use Rattle.zoom_clock.specs.declared.signal.Condition.TheVariants as conditions
 use Rattle.zoom_clock.specs.declared.stage.Stage.{Stage}
 use Rattle.zoom_clock.specs.declared.stage.Stage.TheVariants.{NotChosen, Connecting, Talking, Over}
 use Rattle.zoom_clock.specs.declared.talk.Talk.{Talk}
@@ -65,7 +65,7 @@ connecting_leads limits start now wanted signals.GiveUp a = tt
 connecting_leads limits start now wanted signals.Tick a =
     at_either (λ (r : Ruling). FromConnecting r.stage) (nat_le (connect_end limits start) now)
     (giving_up endings.Connect a) (beginning_next now a) (λ _. tt) (λ _. beginning_leads now (next_of a.states) a)
-connecting_leads limits start now wanted (signals.Octets standing) a = tt
+connecting_leads limits start now wanted (signals.Octets condition) a = tt
 connecting_leads limits start now wanted signals.Taken a = tt
 connecting_leads limits start now wanted signals.End a = tt
 connecting_leads limits start now wanted signals.Unreadable a = tt
@@ -76,7 +76,7 @@ connecting_leads limits start now wanted signals.Turn a = tt
 
 -- it ends by its messages only if octets were told to have ended it
 abbrev pub IsEndBy : Signal → Ending → Type 0
-IsEndBy what endings.Finished = what ≡ signals.Octets standings.Finished
+IsEndBy what endings.Finished = what ≡ signals.Octets conditions.Finished
 IsEndBy what _ = Unit {0}
 
 abbrev pub FromTalking : Signal → Stage → Type 0
@@ -96,11 +96,11 @@ going_leads what t =
 
 pub talking_leads : (now : ℕ) (wanted : Bool) (what : Signal) (t : Talk)
     → FromTalking what (talking_ruling now wanted what t).stage
-talking_leads now wanted (signals.Octets standings.Finished) t = refl
-talking_leads now wanted (signals.Octets standings.Going) t =
-    going_leads (signals.Octets standings.Going) (with_piece now standings.Going t)
-talking_leads now wanted (signals.Octets standings.Leaving) t =
-    going_leads (signals.Octets standings.Leaving) (with_piece now standings.Leaving t)
+talking_leads now wanted (signals.Octets conditions.Finished) t = refl
+talking_leads now wanted (signals.Octets conditions.Going) t =
+    going_leads (signals.Octets conditions.Going) (with_piece now conditions.Going t)
+talking_leads now wanted (signals.Octets conditions.Leaving) t =
+    going_leads (signals.Octets conditions.Leaving) (with_piece now conditions.Leaving t)
 talking_leads now wanted signals.Taken t = tt
 talking_leads now wanted signals.End t = verdict_leads signals.End t endings.InputEnded tt
 talking_leads now wanted signals.Unreadable t = verdict_leads signals.Unreadable t endings.Read tt

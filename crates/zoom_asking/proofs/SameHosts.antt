@@ -22,8 +22,8 @@ use Rattle.zoom_clock.specs.Courses.{event, step, tasks_of, is_settled}
 use Rattle.zoom_asking.specs.declared.inquiry.AskedHost.{AskedHost}
 use Rattle.zoom_asking.specs.Changes.{change_between}
 use Rattle.zoom_asking.specs.Inquiries.{Inquiry, Event, Told, Came, Noted}
-use Rattle.zoom_asking.specs.Talks.{closing, standing_in}
-use Rattle.zoom_asking.specs.Hosts.{HostState, HostAfter, AfterChange, IsNoted, HasHeard, IsFed, IsTold, sends, is_lost_at, first_events, first_host}
+use Rattle.zoom_asking.specs.Talks.{closing, condition_in}
+use Rattle.zoom_asking.specs.Hosts.{AskedConnection, AskedAfter, AfterChange, IsNoted, HasHeard, IsFed, IsTold, sends, is_lost_at, first_events, first_host}
 use Rattle.zoom_asking.specs.Laws.{AreAlike}
 use Rattle.zoom_asking.proofs.Alike.{IsNoCall, AreSame, alike_self, same_more, same_state}
 use Rattle.zoom_asking.proofs.Steady.{AreSound, sound_noted, sound_told}
@@ -55,7 +55,7 @@ pub record AreKept (s : MetaSettings) (question : Question) (stage : Stage) (one
   pub intact : is_settled stage ≡ false → (is_lost one ≡ false) × (is_lost other ≡ false)
 
 -- the same became of two connections
-pub record AreTwins (s : MetaSettings) (question : Question) (x y : HostState) : Type 0 where
+pub record AreTwins (s : MetaSettings) (question : Question) (x y : AskedConnection) : Type 0 where
   pub course : x.course ≡ y.course
   pub tasks : x.tasks ≡ y.tasks
   pub kept : AreKept s question x.course.stage x.events y.events
@@ -129,7 +129,7 @@ module _ (l : Laws) (s : MetaSettings) (question : Question) (w : IsWanted (posi
 
   -- ---- what is told of both
 
-  noted_twins : (at : ℕ) (what : Signal) (one other : List pool.Event) (x y v z : HostState) → AreTwins s question x y
+  noted_twins : (at : ℕ) (what : Signal) (one other : List pool.Event) (x y v z : AskedConnection) → AreTwins s question x y
       → AreKept s question x.course.stage one other → IsNoted s question at what one x v
       → IsNoted s question at what other y z → AreSound s question v.events → AreSound s question z.events
       → AreTwins s question v z
@@ -155,28 +155,28 @@ module _ (l : Laws) (s : MetaSettings) (question : Question) (w : IsWanted (posi
         kept = now;
       }
 
-  heard_twins : (at : ℕ) (piece : List ℕ) (x y v z : HostState) → AreTwins s question x y
+  heard_twins : (at : ℕ) (piece : List ℕ) (x y v z : AskedConnection) → AreTwins s question x y
       → (is_lost x.events ≡ false) × (is_lost y.events ≡ false) → HasHeard s question at piece x v
       → HasHeard s question at piece y z → AreSound s question v.events → AreSound s question z.events
       → AreTwins s question v z
   heard_twins at piece x y v z a intact h k f g =
-      let here = sound_noted s question at (signals.Octets h.standing) h.heard x v h.noted f in
-      let there = sound_noted s question at (signals.Octets k.standing) k.heard y z k.noted g in
+      let here = sound_noted s question at (signals.Octets h.condition) h.heard x v h.noted f in
+      let there = sound_noted s question at (signals.Octets k.condition) k.heard y z k.noted g in
       let whole = heard_same l s question w lo piece x.events h.heard y.events k.heard h.hears k.hears
       (record { same = a.kept.same; first = intact.0; second = intact.1 }) here there in
       let alike = whole.same.alike here.transcript there.transcript here.is there.is in
-      let standing : h.standing ≡ k.standing = h.stands here.transcript here.is
-      ∙ ap standing_in (same_state (errand_of s question) here.transcript there.transcript alike)
+      let condition : h.condition ≡ k.condition = h.stands here.transcript here.is
+      ∙ ap condition_in (same_state (errand_of s question) here.transcript there.transcript alike)
       ∙ sym (k.stands there.transcript there.is) in
-      noted_twins at (signals.Octets h.standing) h.heard k.heard x y v z a
+      noted_twins at (signals.Octets h.condition) h.heard k.heard x y v z a
       (record { same = whole.same; intact = λ going. (whole.first, whole.second) }) h.noted
-      (subst (λ t. IsNoted s question at (signals.Octets t) k.heard y z) (sym standing) k.noted) f g
+      (subst (λ t. IsNoted s question at (signals.Octets t) k.heard y z) (sym condition) k.noted) f g
 
-  same_twins : (x y v z : HostState) → AreTwins s question x y → v ≡ x → z ≡ y → AreTwins s question v z
+  same_twins : (x y v z : AskedConnection) → AreTwins s question x y → v ≡ x → z ≡ y → AreTwins s question v z
   same_twins x y v z a p q =
       subst (λ h. AreTwins s question h z) (sym p) (subst (AreTwins s question x) (sym q) a)
 
-  fed_twins : (at : ℕ) (piece : List ℕ) (stage : Stage) (x y v z : HostState) → AreTwins s question x y
+  fed_twins : (at : ℕ) (piece : List ℕ) (stage : Stage) (x y v z : AskedConnection) → AreTwins s question x y
       → AreKept s question stage x.events y.events → IsFed s question at piece stage x v
       → IsFed s question at piece stage y z → AreSound s question v.events → AreSound s question z.events
       → AreTwins s question v z
@@ -185,7 +185,7 @@ module _ (l : Laws) (s : MetaSettings) (question : Question) (w : IsWanted (posi
   fed_twins at piece (Connecting b) x y v z a kept h k f g = same_twins x y v z a h k
   fed_twins at piece (Over ending) x y v z a kept h k f g = same_twins x y v z a h k
 
-  told_twins : (at : ℕ) (told : Told) (x y v z : HostState) → AreTwins s question x y → IsTold s question at told x v
+  told_twins : (at : ℕ) (told : Told) (x y v z : AskedConnection) → AreTwins s question x y → IsTold s question at told x v
       → IsTold s question at told y z → AreSound s question v.events → AreSound s question z.events
       → AreTwins s question v z
   told_twins at (Came piece) x y v z a h k f g =
@@ -219,8 +219,8 @@ module _ (l : Laws) (s : MetaSettings) (question : Question) (w : IsWanted (posi
       }
 
   pub twins : (i j : Inquiry) (host : Option AskedHost) → i.settings ≡ s → j.settings ≡ s
-      → first_host j host ≡ first_host i host → (es : List Event) (x y : HostState) → HostAfter i host question es x
-      → HostAfter j host question es y → AreSound s question x.events → AreSound s question y.events
+      → first_host j host ≡ first_host i host → (es : List Event) (x y : AskedConnection) → AskedAfter i host question es x
+      → AskedAfter j host question es y → AreSound s question x.events → AreSound s question y.events
       → AreTwins s question x y
   twins i j host one other begun [] x y a b f g =
       same_twins (first_host i host) (first_host i host) x y (first_twins i host) a (b ∙ begun)

@@ -6,16 +6,16 @@ use Rattle.zoom_clock.specs.Clocks.{AreSettled, SomeIsOpen}
 use Rattle.zoom_clock.specs.Courses.{is_settled}
 use Rattle.zoom_asking.specs.declared.asking.Asking.{Asking}
 use Rattle.zoom_asking.specs.Inquiries.{Inquiry, Entry}
-use Rattle.zoom_asking.specs.Hosts.{HostState}
+use Rattle.zoom_asking.specs.Hosts.{AskedConnection}
 use Rattle.zoom_asking.specs.Askings.{AreOver, AskingAfter}
 use Rattle.zoom_asking.proofs.Holding.{get_map}
 
-abbrev course_in : HostState → Course
+abbrev course_in : AskedConnection → Course
 course_in h = h.course
 
 -- the connection of a course
-host_of : (hosts : List HostState) (c : ℕ) (p : Course) → slice_get (map course_in hosts) c ≡ Some p
-    → (h : HostState) × (slice_get hosts c ≡ Some h) × (h.course ≡ p)
+host_of : (hosts : List AskedConnection) (c : ℕ) (p : Course) → slice_get (map course_in hosts) c ≡ Some p
+    → (h : AskedConnection) × (slice_get hosts c ≡ Some h) × (h.course ≡ p)
 host_of [] c p get = absurd (cc)
 host_of (h ∷ hs) zero p get = (h, refl, cc)
 host_of (h ∷ hs) (suc c) p get = host_of hs c p get

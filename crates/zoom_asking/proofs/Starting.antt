@@ -13,7 +13,7 @@ use Rattle.zoom_asking.specs.declared.asking.Asking.{Asking}
 use Rattle.zoom_asking.specs.declared.inquiry.AskedHost.{AskedHost}
 use Rattle.zoom_asking.specs.Buffers.{AreEmpty, octets_in}
 use Rattle.zoom_asking.specs.Inquiries.{Inquiry, is_at_once, addresses_of, plan_of}
-use Rattle.zoom_asking.specs.Hosts.{HostState, course_of, first_host}
+use Rattle.zoom_asking.specs.Hosts.{AskedConnection, course_of, first_host}
 use Rattle.zoom_asking.specs.Askings.{Holds, AskingAfter, HasBegun, HasTurned, after_turns, begun_to, tasks_for}
 use Rattle.zoom_asking.proofs.Queues.{tasks_append, tasks_same, tasks_other}
 use Rattle.zoom_asking.proofs.Beginning.{begun_size}
@@ -46,15 +46,15 @@ not_not false = refl
 -- the courses are those of the connections
 planned_courses : (i : Inquiry) (hosts : List (Option AskedHost))
     → all_planned i.start (is_at_once i.manner) (map (plan_of i.manner i.total) hosts)
-    ≡ map (λ (h : HostState). h.course) (begun_to i 0 hosts)
+    ≡ map (λ (h : AskedConnection). h.course) (begun_to i 0 hosts)
 planned_courses i [] = refl
 planned_courses i (x ∷ hosts) = ap (λ l. course_of i x ∷ l) (planned_courses i hosts)
 
-abbrev tasks_in : Option HostState → List Task
+abbrev tasks_in : Option AskedConnection → List Task
 tasks_in None = []
 tasks_in (Some y) = y.tasks
 
-abbrev events_in : Option HostState → List Event
+abbrev events_in : Option AskedConnection → List Event
 events_in None = []
 events_in (Some y) = y.events
 
@@ -68,7 +68,7 @@ none_earlier start d k (p ∷ plans) lt =
     ∙ none_earlier start d (k + 1) plans (omega arith)
 
 -- each connection's tasks are its own
-planned_queue : (i : Inquiry) (k : ℕ) (hosts : List (Option AskedHost)) (c : ℕ) (h : HostState)
+planned_queue : (i : Inquiry) (k : ℕ) (hosts : List (Option AskedHost)) (c : ℕ) (h : AskedConnection)
     → slice_get (begun_to i 0 hosts) c ≡ Some h
     → tasks_for (k + c) (planned_tasks i.start k (map (plan_of i.manner i.total) hosts)) ≡ h.tasks
 planned_queue i k [] c h get = absurd (cc)
@@ -90,7 +90,7 @@ planned_queue i k (x ∷ hosts) (suc c) h get =
     ∙ ap (λ d. tasks_for d rest) e ∙ planned_queue i (k + 1) hosts c h get
 
 -- at first there are no events
-no_events : (i : Inquiry) (hosts : List (Option AskedHost)) (c : ℕ) (h : HostState)
+no_events : (i : Inquiry) (hosts : List (Option AskedHost)) (c : ℕ) (h : AskedConnection)
     → slice_get (begun_to i 0 hosts) c ≡ Some h → h.events ≡ []
 no_events i [] c h get = absurd (cc)
 no_events i (x ∷ hosts) zero h get = ap events_in (sym get)

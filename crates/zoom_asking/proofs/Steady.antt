@@ -25,7 +25,7 @@ use Rattle.zoom_asking.specs.declared.change.Change.TheVariants as changes
 use Rattle.zoom_asking.specs.Changes.{change_between}
 use Rattle.zoom_asking.specs.Inquiries.{Told, Came, Noted}
 use Rattle.zoom_asking.specs.Talks.{IsDriven, AreTaken, none, last, one, closing}
-use Rattle.zoom_asking.specs.Hosts.{HostState, AfterChange, IsNoted, IsFed, IsTold}
+use Rattle.zoom_asking.specs.Hosts.{AskedConnection, AfterChange, IsNoted, IsFed, IsTold}
 
 -- ---- one event
 
@@ -128,21 +128,21 @@ module _ (s : MetaSettings) (question : Question) where
   sound_changed changes.Opened old new drives sound = sound_driven old new drives sound
   sound_changed (changes.Ended ending) old new is sound = sound_closed ending old (subst AreSound is sound)
 
-  pub sound_noted : (at : ℕ) (what : Signal) (events : List Event) (old new : HostState)
+  pub sound_noted : (at : ℕ) (what : Signal) (events : List Event) (old new : AskedConnection)
       → IsNoted s question at what events old new → AreSound new.events → AreSound events
   sound_noted at what events old new n sound =
       sound_changed (change_between old.course.stage new.course.stage) events new.events n.changed sound
 
-  sound_fed : (at : ℕ) (piece : List ℕ) (stage : Stage) (old new : HostState)
+  sound_fed : (at : ℕ) (piece : List ℕ) (stage : Stage) (old new : AskedConnection)
       → IsFed s question at piece stage old new → AreSound new.events → AreSound old.events
   sound_fed at piece (Talking t) old new h sound =
       before (Fed piece) old.events (sound_taken (Fed piece ∷ old.events) h.heard h.hears
       (sound_noted at _ h.heard old new h.noted sound))
-  sound_fed at piece NotChosen old new same sound = subst (λ (z : HostState). AreSound z.events) same sound
-  sound_fed at piece (Connecting a) old new same sound = subst (λ (z : HostState). AreSound z.events) same sound
-  sound_fed at piece (Over ending) old new same sound = subst (λ (z : HostState). AreSound z.events) same sound
+  sound_fed at piece NotChosen old new same sound = subst (λ (z : AskedConnection). AreSound z.events) same sound
+  sound_fed at piece (Connecting a) old new same sound = subst (λ (z : AskedConnection). AreSound z.events) same sound
+  sound_fed at piece (Over ending) old new same sound = subst (λ (z : AskedConnection). AreSound z.events) same sound
 
-  pub sound_told : (at : ℕ) (told : Told) (old new : HostState) → IsTold s question at told old new
+  pub sound_told : (at : ℕ) (told : Told) (old new : AskedConnection) → IsTold s question at told old new
       → AreSound new.events → AreSound old.events
   sound_told at (Came piece) old new is sound = sound_fed at piece old.course.stage old new is sound
   sound_told at (Noted what) old new is sound = sound_noted at what old.events old new is sound

@@ -14,12 +14,12 @@ use Rattle.zoom_pool.specs.Laws.{OneTranscript}
 use Rattle.zoom_pool.specs.Metas.{MetaLinks, MetaRecorded, MetaTakeStep, settings_of}
 use Rattle.zoom_pool.proofs.Metas.{transcript_at}
 use Rattle.zoom_pool.proofs.MetaTakes.{took_within}
-use Rattle.zoom_clock.specs.declared.signal.Standing.{Standing}
+use Rattle.zoom_clock.specs.declared.signal.Condition.{Condition}
 use Rattle.zoom_asking.specs.declared.talk.Receipt.{Receipt}
 use Rattle.zoom_asking.specs.declared.talk.Receipt.TheVariants as receipts
-use Rattle.zoom_asking.specs.Steps.{IsExtended, IsReceived, IsStandingAt, receipt_of}
-use Rattle.zoom_asking.specs.Talks.{IsNextResult, IsDriven, AreTaken, IsHeard, one, none, last, standing_in}
-use Rattle.zoom_asking.proofs.Extending.{Relation, IsAdded, extended_by, extended_none, extended_on, recorded}
+use Rattle.zoom_asking.specs.Steps.{IsExtended, IsReceived, IsConditionAt, receipt_of}
+use Rattle.zoom_asking.specs.Talks.{Relation, IsNextResult, IsDriven, AreTaken, IsHeard, one, none, last, condition_in}
+use Rattle.zoom_asking.proofs.Extending.{IsAdded, extended_by, extended_none, extended_on, recorded}
 
 -- ---- one take
 
@@ -134,11 +134,11 @@ heard_on c piece old mid new waited waits after taken =
 
 -- ---- how a connection stands
 
-pub stands_at : OneTranscript → (c : ℕ) (meta : MetaLinks) (state : State) (standing : Standing)
-    → c < length meta.pool.connections → IsStateAt c meta.pool state → standing ≡ standing_in state
-    → IsStandingAt c meta standing
-stands_at hearing c meta state standing lt is same questions s pool a p transcript =
+pub stands_at : OneTranscript → (c : ℕ) (meta : MetaLinks) (state : State) (condition : Condition)
+    → c < length meta.pool.connections → IsStateAt c meta.pool state → condition ≡ condition_in state
+    → IsConditionAt c meta condition
+stands_at hearing c meta state condition lt is same questions s pool a p transcript =
     let now = transcript_at (settings_of s) pool a.pool.transcript meta.pool.connections c a.pool.stands lt in
     let this : a.pool.transcript c ≡ p =
     hearing (settings_of s) (events_on c pool) (a.pool.transcript c) p now transcript in
-    same ∙ ap standing_in (is (settings_of s) [] pool a.pool ∙ ap state_at this)
+    same ∙ ap condition_in (is (settings_of s) [] pool a.pool ∙ ap state_at this)

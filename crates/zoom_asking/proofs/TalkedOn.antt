@@ -15,14 +15,15 @@ use Rattle.zoom_clock.proofs.Places.{get_set_same, get_set_other}
 use Rattle.zoom_asking.specs.declared.asking.Asking.{Asking}
 use Rattle.zoom_asking.specs.Buffers.{octets_in}
 use Rattle.zoom_asking.specs.Steps.{IsExtended}
-use Rattle.zoom_asking.specs.Askings.{IsSame, IsSendPut, IsTalkedOn, new_sends, unsent_at}
+use Rattle.zoom_asking.specs.Hosts.{new_sends}
+use Rattle.zoom_asking.specs.Askings.{IsSame, IsSendPut, IsTalkedOn, unsent_at}
 
 send_task : (c : ℕ) (b : Bool) → cond b (for_connection c Send ∷ []) [] ≡ all_for c (cond b (Send ∷ []) [])
 send_task c true = refl
 send_task c false = refl
 
 -- nothing is to be sent if nothing more waits
-no_new : (lost : Bool) (waits : List ℕ) → new_sends lost waits waits ≡ []
+pub no_new : (lost : Bool) (waits : List ℕ) → new_sends lost waits waits ≡ []
 no_new lost waits =
     let same : nat_lt (length waits) (length waits) ≡ false = grind (arith, nat_tests) in
     ap (λ b. cond (not lost && b) (Send ∷ []) []) same ∙ by (not lost)

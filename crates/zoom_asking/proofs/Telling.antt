@@ -12,42 +12,31 @@ use Rattle.zoom_clock.specs.declared.course.Course.{Course}
 use Rattle.zoom_clock.specs.declared.signal.Signal.{Signal}
 use Rattle.zoom_clock.specs.Clocks.{AfterNote}
 use Rattle.zoom_clock.specs.Courses.{event, step, tasks_of}
-use Rattle.zoom_clock.proofs.Places.{get_set_same}
+use Rattle.zoom_clock.proofs.Places.{get_set_same, set_set}
 use Rattle.zoom_asking.specs.declared.asking.Asking.{Asking}
 use Rattle.zoom_asking.specs.declared.change.Change.{Change}
 use Rattle.zoom_asking.specs.declared.change.Kind.{Kind}
 use Rattle.zoom_asking.specs.Changes.{kind_of, change_of, change_between}
 use Rattle.zoom_asking.specs.Inquiries.{Inquiry}
-use Rattle.zoom_asking.specs.Hosts.{HostState, AfterChange, IsNoted, sends, is_lost_at}
+use Rattle.zoom_asking.specs.Hosts.{AskedConnection, AfterChange, IsNoted, sends, is_lost_at}
 use Rattle.zoom_asking.specs.Askings.{Holds, IsTalkedOn, IsOneTold}
+use Rattle.zoom_asking.proofs.TalkedOn.{no_new}
 use Rattle.zoom_asking.proofs.Holding.{events, related, talked, talked_host, noted, noted_host, get_map}
-
--- one place changed twice
-pub set_set : {A : Type 0} (xs : List A) (c : ℕ) (v w : A) → slice_set (slice_set xs c v) c w ≡ slice_set xs c w
-set_set [] c v w = refl
-set_set (x ∷ xs) zero v w = refl
-set_set (x ∷ xs) (suc c) v w = ap (λ l. x ∷ l) (set_set xs c v w)
 
 -- nothing new is to be sent if no events were added
 pub no_sends : (lost : Bool) (old : List pool.Event) → sends lost old old ≡ []
-no_sends lost old =
-    let same : nat_lt (length (given old)) (length (given old)) ≡ false = grind (arith, nat_tests) in
-    ap (λ b. cond (not lost && b) (Send ∷ []) []) same ∙ by (not lost)
-  where
-    by : (b : Bool) → cond (b && false) (Send ∷ []) [] ≡ []
-    by true = refl
-    by false = refl
+no_sends lost old = no_new lost (given old)
 
 -- the change that was found is the one between the stages of the connection's course
 pub same_change : (c at : ℕ) (what : Signal) (old : Asking) (clock : Clock) (before after : Course) (kind : Kind)
     (change : Change) → AfterNote c (event at what) old.clock clock
     → slice_get old.clock.courses.items c ≡ Some before → slice_get clock.courses.items c ≡ Some after
     → kind ≡ kind_of before.stage → change ≡ change_of kind after.stage
-    → (i : Inquiry) (hosts : List HostState) (h : HostState) → Holds i hosts old → slice_get hosts c ≡ Some h
+    → (i : Inquiry) (hosts : List AskedConnection) (h : AskedConnection) → Holds i hosts old → slice_get hosts c ≡ Some h
     → change ≡ change_between h.course.stage (step (event at what) h.course).stage
 same_change c at what old clock before after kind change n was now kinds changes i hosts h o get =
     let here : slice_get old.clock.courses.items c ≡ Some h.course =
-    ap (λ l. slice_get l c) o.courses ∙ get_map (λ (x : HostState). x.course) hosts c h get in
+    ap (λ l. slice_get l c) o.courses ∙ get_map (λ (x : AskedConnection). x.course) hosts c h get in
     let first : before ≡ h.course = cc in
     let lt = slice_get_within old.clock.courses.items c before was in
     let there : slice_get clock.courses.items c ≡ Some (step (event at what) before) =
@@ -59,16 +48,16 @@ same_change c at what old clock before after kind change n was now kinds changes
 
 module _ (c at : ℕ) (what : Signal) (old mid new : Asking) (change : Change) (n : AfterNote c (event at what) old.clock mid.clock)
     (meta : mid.meta ≡ old.meta) (unsent : mid.unsent ≡ old.unsent) (t : IsTalkedOn c (AfterChange change) false mid new)
-    (is : (i : Inquiry) (hosts : List HostState) (h : HostState) → Holds i hosts old → slice_get hosts c ≡ Some h
+    (is : (i : Inquiry) (hosts : List AskedConnection) (h : AskedConnection) → Holds i hosts old → slice_get hosts c ≡ Some h
     → change ≡ change_between h.course.stage (step (event at what) h.course).stage)
   where
-    module _ (i : Inquiry) (hosts : List HostState) (h : HostState) (question : Question) (o : Holds i hosts old)
+    module _ (i : Inquiry) (hosts : List AskedConnection) (h : AskedConnection) (question : Question) (o : Holds i hosts old)
         (get : slice_get hosts c ≡ Some h) (asked : slice_get i.questions c ≡ Some question)
       where
-        abbrev k : HostState
+        abbrev k : AskedConnection
         k = noted_host (event at what) h
 
-        abbrev hosts1 : List HostState
+        abbrev hosts1 : List AskedConnection
         hosts1 = slice_set hosts c k
 
         o1 : Holds i hosts1 mid
@@ -80,7 +69,7 @@ module _ (c at : ℕ) (what : Signal) (old mid new : Asking) (change : Change) (
         abbrev ev : List pool.Event
         ev = events i hosts1 mid new c (AfterChange change) false k question o1 at1 asked t
 
-        abbrev g : HostState
+        abbrev g : AskedConnection
         g = talked_host false k ev
 
         changed : AfterChange change i.settings question h.events ev

@@ -19,7 +19,7 @@ use Rattle.zoom_asking.specs.declared.change.Change.TheVariants as changes
 use Rattle.zoom_asking.specs.Buffers.{octets_in}
 use Rattle.zoom_asking.specs.Changes.{change_between}
 use Rattle.zoom_asking.specs.Inquiries.{Inquiry, Entry, Noted, event_from, own_event, passed_in}
-use Rattle.zoom_asking.specs.Hosts.{HostState, AfterChange, IsNoted, sends, is_lost_at}
+use Rattle.zoom_asking.specs.Hosts.{AskedConnection, AfterChange, IsNoted, sends, is_lost_at}
 use Rattle.zoom_asking.specs.Askings.{Holds, IsToldIf, IsEntered, IsOneTold, HasTurned, after_turns, tasks_for, time_in}
 use Rattle.zoom_asking.proofs.Holding.{get_map}
 use Rattle.zoom_asking.proofs.Telling.{no_sends}
@@ -27,28 +27,28 @@ use Rattle.zoom_asking.proofs.Entering.{host_at, question_at}
 
 -- how a connection was before, and how it is now
 abbrev pub Relation : Type 1
-Relation = Inquiry → ℕ → Question → HostState → HostState → Type 0
+Relation = Inquiry → ℕ → Question → AskedConnection → AskedConnection → Type 0
 
 -- the connections are related so to those before
-pub record Middle (R : Relation) (i : Inquiry) (hosts : List HostState) (a : Asking) : Type 0 where
-  pub mid : List HostState
+pub record Middle (R : Relation) (i : Inquiry) (hosts : List AskedConnection) (a : Asking) : Type 0 where
+  pub mid : List AskedConnection
   pub holds : Holds i mid a
   pub size : length mid ≡ length hosts
-  pub each : (c : ℕ) (q : Question) (h g : HostState) → slice_get i.questions c ≡ Some q → slice_get hosts c ≡ Some h
+  pub each : (c : ℕ) (q : Question) (h g : AskedConnection) → slice_get i.questions c ≡ Some q → slice_get hosts c ≡ Some h
       → slice_get mid c ≡ Some g → R i c q h g
 
 -- the same for all connections that can have been before, at a time
 pub record IsPartly (R : Relation) (at : ℕ) (old new : Asking) : Type 0 where
   pub size : length new.meta.pool.connections ≡ length old.meta.pool.connections
   pub passed : new.clock.passed ≡ at
-  pub told : (i : Inquiry) (hosts : List HostState) → Holds i hosts old → Middle R i hosts new
+  pub told : (i : Inquiry) (hosts : List AskedConnection) → Holds i hosts old → Middle R i hosts new
 
 -- ---- none was told anything yet: only time has passed
 
 pub started : (R : Relation) (at : ℕ) (old new : Asking) → new.meta ≡ old.meta → new.unsent ≡ old.unsent
     → new.clock.courses ≡ old.clock.courses → new.clock.queue ≡ old.clock.queue
     → new.clock.in_order ≡ old.clock.in_order → (IsOrderly old.clock → IsOrderly new.clock) → new.clock.passed ≡ at
-    → ((i : Inquiry) (c : ℕ) (q : Question) (h : HostState) → R i c q h h) → IsPartly R at old new
+    → ((i : Inquiry) (c : ℕ) (q : Question) (h : AskedConnection) → R i c q h h) → IsPartly R at old new
 started R at old new meta unsent courses queue in_order orderly passed first = record {
   size = ap (λ m. length m.pool.connections) meta;
   passed = passed;
@@ -76,11 +76,11 @@ started R at old new meta unsent courses queue in_order orderly passed first = r
 
 module _ (R S : Relation) (c at : ℕ) (what : Signal) (old now new : Asking) (p : IsPartly R at old now)
     (lt : c < length now.meta.pool.connections) (one : IsOneTold c at what now new)
-    (here : (i : Inquiry) (mid : List HostState) (q : Question) (h x g : HostState) → Holds i mid now
+    (here : (i : Inquiry) (mid : List AskedConnection) (q : Question) (h x g : AskedConnection) → Holds i mid now
     → slice_get mid c ≡ Some x → R i c q h x → IsNoted i.settings q at what x.events x g → S i c q h g)
-    (others : (i : Inquiry) (d : ℕ) (q : Question) (h g : HostState) → (d ≡ c → ⊥) → R i d q h g → S i d q h g)
+    (others : (i : Inquiry) (d : ℕ) (q : Question) (h g : AskedConnection) → (d ≡ c → ⊥) → R i d q h g → S i d q h g)
   where
-    told_one : (i : Inquiry) (hosts : List HostState) → Holds i hosts old → Middle S i hosts new
+    told_one : (i : Inquiry) (hosts : List AskedConnection) → Holds i hosts old → Middle S i hosts new
     told_one i hosts o =
         let m = p.told i hosts o in
         let x = host_at i m.mid now c m.holds lt in
@@ -113,7 +113,7 @@ module _ (x : Entry) (R : Relation) (now at : ℕ) (what : Signal) (old mid new 
     (times : (p : ℕ) → time_in p x ≡ max p now)
     (passes : (start : ℕ) (xs : List Entry) → passed_in start (x ∷ xs) ≡ max (passed_in start xs) now)
     (is : at ≡ max old.clock.passed now) (p : IsPartly R at old mid)
-    (all : (i : Inquiry) (hosts : List HostState) (c : ℕ) (q : Question) (h g : HostState) → Holds i hosts mid
+    (all : (i : Inquiry) (hosts : List AskedConnection) (c : ℕ) (q : Question) (h g : AskedConnection) → Holds i hosts mid
     → slice_get i.questions c ≡ Some q → slice_get hosts c ≡ Some g → R i c q h g
     → IsNoted i.settings q at what h.events h g)
   where
@@ -149,13 +149,13 @@ Ticked at i c q h g =
     (g ≡ h) ⊎ (IsNoted i.settings q at signals.Tick h.events h g × (at < wake_of g.course))
 
 -- the course of a connection is the clock's
-course_at : (i : Inquiry) (hosts : List HostState) (a : Asking) (c : ℕ) (h : HostState) → Holds i hosts a
+course_at : (i : Inquiry) (hosts : List AskedConnection) (a : Asking) (c : ℕ) (h : AskedConnection) → Holds i hosts a
     → slice_get hosts c ≡ Some h → slice_get a.clock.courses.items c ≡ Some h.course
 course_at i hosts a c h o get =
-    ap (λ l. slice_get l c) o.courses ∙ get_map (λ (x : HostState). x.course) hosts c h get
+    ap (λ l. slice_get l c) o.courses ∙ get_map (λ (x : AskedConnection). x.course) hosts c h get
 
 -- the next time of one that is due has come
-due_wakes : (i : Inquiry) (hosts : List HostState) (a : Asking) (c : ℕ) (h : HostState) → Holds i hosts a
+due_wakes : (i : Inquiry) (hosts : List AskedConnection) (a : Asking) (c : ℕ) (h : AskedConnection) → Holds i hosts a
     → slice_get hosts c ≡ Some h → IsDueAt a.clock.wakes a.clock.passed c → wake_of h.course ≤ a.clock.passed
 due_wakes i hosts a c h o get due =
     let time = o.orderly.wakes c h.course (Some due.0) (course_at i hosts a c h o get) due.1 in
@@ -171,15 +171,15 @@ pub ticked : (c at : ℕ) (old now new : Asking) → at < never → IsPartly (Ti
 ticked c at old now new top p lt due one passed size =
     stepped (Ticked at) (Ticked at) c at signals.Tick old now new p lt one here (λ i d q h g n r. r) passed size
   where
-    later : (x g : HostState) → g.course ≡ step (event at signals.Tick) x.course → at < wake_of g.course
+    later : (x g : AskedConnection) → g.course ≡ step (event at signals.Tick) x.course → at < wake_of g.course
     later x g e = subst (λ z. at < wake_of z) (sym e) (wakes_later x.course at top)
 
-    here : (i : Inquiry) (mid : List HostState) (q : Question) (h x g : HostState) → Holds i mid now
+    here : (i : Inquiry) (mid : List AskedConnection) (q : Question) (h x g : AskedConnection) → Holds i mid now
         → slice_get mid c ≡ Some x → Ticked at i c q h x → IsNoted i.settings q at signals.Tick x.events x g
         → Ticked at i c q h g
     here i mid q h x g o get (inl same) noted =
         inr (
-          subst (λ (z : HostState). IsNoted i.settings q at signals.Tick z.events z g) same noted,
+          subst (λ (z : AskedConnection). IsNoted i.settings q at signals.Tick z.events z g) same noted,
           later x g noted.course,
         )
     here i mid q h x g o get (inr told) noted =
@@ -195,7 +195,7 @@ no_change (Talking t) = refl
 no_change (Over ending) = refl
 
 -- a tick before the next time changes nothing
-quiet : (i : Inquiry) (at : ℕ) (q : Question) (h : HostState) → at < wake_of h.course
+quiet : (i : Inquiry) (at : ℕ) (q : Question) (h : AskedConnection) → at < wake_of h.course
     → IsNoted i.settings q at signals.Tick h.events h h
 quiet i at q h lt =
     let idle = idle_before h.course at lt in
@@ -213,13 +213,13 @@ quiet i at q h lt =
 -- once none is due, all are as if they were told
 pub all_ticked : (at : ℕ) (a : Asking) → a.clock.passed ≡ at
     → (IsOrderly a.clock → NoneIsDue a.clock.passed a.clock.courses.items)
-    → (i : Inquiry) (hosts : List HostState) (c : ℕ) (q : Question) (h g : HostState) → Holds i hosts a
+    → (i : Inquiry) (hosts : List AskedConnection) (c : ℕ) (q : Question) (h g : AskedConnection) → Holds i hosts a
     → slice_get i.questions c ≡ Some q → slice_get hosts c ≡ Some g → Ticked at i c q h g
     → IsNoted i.settings q at signals.Tick h.events h g
 all_ticked at a passed none i hosts c q h g o asked get (inl same) =
     let lt : at < wake_of g.course =
     subst (λ t. t < wake_of g.course) passed (none o.orderly c g.course (course_at i hosts a c g o get)) in
-    subst (λ (z : HostState). IsNoted i.settings q at signals.Tick z.events z g) same (quiet i at q g lt)
+    subst (λ (z : AskedConnection). IsNoted i.settings q at signals.Tick z.events z g) same (quiet i at q g lt)
 all_ticked at a passed none i hosts c q h g o asked get (inr told) = told.0
 
 -- ---- all are given up
@@ -236,14 +236,14 @@ pub gave_up : (c at : ℕ) (old now new : Asking) → IsPartly (GaveUp c at) at 
 gave_up c at old now new p lt one passed size =
     stepped (GaveUp c at) (GaveUp (c + 1) at) c at signals.GiveUp old now new p lt one here others passed size
   where
-    here : (i : Inquiry) (mid : List HostState) (q : Question) (h x g : HostState) → Holds i mid now
+    here : (i : Inquiry) (mid : List AskedConnection) (q : Question) (h x g : AskedConnection) → Holds i mid now
         → slice_get mid c ≡ Some x → GaveUp c at i c q h x → IsNoted i.settings q at signals.GiveUp x.events x g
         → GaveUp (c + 1) at i c q h g
     here i mid q h x g o get (inl told) noted = let less = told.0 in absurd (omega arith)
     here i mid q h x g o get (inr same) noted =
-        inl (omega arith, subst (λ (z : HostState). IsNoted i.settings q at signals.GiveUp z.events z g) same.1 noted)
+        inl (omega arith, subst (λ (z : AskedConnection). IsNoted i.settings q at signals.GiveUp z.events z g) same.1 noted)
 
-    others : (i : Inquiry) (d : ℕ) (q : Question) (h g : HostState) → (d ≡ c → ⊥) → GaveUp c at i d q h g
+    others : (i : Inquiry) (d : ℕ) (q : Question) (h g : AskedConnection) → (d ≡ c → ⊥) → GaveUp c at i d q h g
         → GaveUp (c + 1) at i d q h g
     others i d q h g n (inl told) = let less = told.0 in inl (omega arith, told.1)
     others i d q h g n (inr same) = let le = same.0 in inr (above d n le, same.1)
@@ -253,7 +253,7 @@ gave_up c at old now new p lt one passed size =
 
 -- at the end all were given up
 pub all_gave_up : (n at : ℕ) (a : Asking) → length a.meta.pool.connections ≤ n
-    → (i : Inquiry) (hosts : List HostState) (c : ℕ) (q : Question) (h g : HostState) → Holds i hosts a
+    → (i : Inquiry) (hosts : List AskedConnection) (c : ℕ) (q : Question) (h g : AskedConnection) → Holds i hosts a
     → slice_get i.questions c ≡ Some q → slice_get hosts c ≡ Some g → GaveUp n at i c q h g
     → IsNoted i.settings q at signals.GiveUp h.events h g
 all_gave_up n at a most i hosts c q h g o asked get (inl told) = told.1

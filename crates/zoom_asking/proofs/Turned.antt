@@ -17,9 +17,9 @@ use Rattle.zoom_asking.specs.declared.inquiry.Manner.{Manner}
 use Rattle.zoom_asking.specs.declared.inquiry.Manner.TheVariants as manners
 use Rattle.zoom_asking.specs.Changes.{change_between}
 use Rattle.zoom_asking.specs.Inquiries.{Inquiry, Entry, Event, Noted, own, own_event, passed_in}
-use Rattle.zoom_asking.specs.Hosts.{HostState, HostAfter, AfterChange, IsNoted, first_host, is_lost_at, sends}
-use Rattle.zoom_asking.specs.Askings.{HostsAfter, IsToldIf, after_turns, time_in, with_next_turn, with_turn}
-use Rattle.zoom_asking.specs.Laws.{AreReported, TurnsLaw, but_turns, is_no_turn}
+use Rattle.zoom_asking.specs.Hosts.{AskedConnection, AskedAfter, AfterChange, IsNoted, first_host, is_lost_at, sends}
+use Rattle.zoom_asking.specs.Askings.{AllAskedAfter, IsToldIf, after_turns, time_in, with_next_turn, with_turn}
+use Rattle.zoom_asking.specs.Laws.{AreReported, AskedOn, TurnsLaw, but_turns, is_no_turn}
 use Rattle.zoom_asking.proofs.Owning.{beside}
 use Rattle.zoom_asking.proofs.Rulings.{stage_next}
 use Rattle.zoom_asking.proofs.Telling.{no_sends}
@@ -51,14 +51,14 @@ turn_changes p at = elim (stage_next (event at signals.Turn) p) [
 ]
 
 -- a connection whose turn has come
-abbrev turned_host : ℕ → HostState → HostState
+abbrev turned_host : ℕ → AskedConnection → AskedConnection
 turned_host at h = record {
   course = step (event at signals.Turn) h.course;
   events = h.events;
   tasks = h.tasks ++ tasks_of (event at signals.Turn) h.course;
 }
 
-turn_noted : (s : MetaSettings) (q : Question) (at : ℕ) (h : HostState)
+turn_noted : (s : MetaSettings) (q : Question) (at : ℕ) (h : AskedConnection)
     → IsNoted s q at signals.Turn h.events h (turned_host at h)
 turn_noted s q at h = record {
   course = refl;
@@ -73,32 +73,32 @@ turn_noted s q at h = record {
 -- ---- who gets a turn
 
 -- this connection was there, or it is one whose turn has come
-abbrev Found : ℕ → List HostState → ℕ → HostState → Type 0
-Found at hosts c h = (k : HostState) × (slice_get hosts c ≡ Some k) × ((h ≡ k) ⊎ (h ≡ turned_host at k))
+abbrev Found : ℕ → List AskedConnection → ℕ → AskedConnection → Type 0
+Found at hosts c h = (k : AskedConnection) × (slice_get hosts c ≡ Some k) × ((h ≡ k) ⊎ (h ≡ turned_host at k))
 
-given_turn : (at : ℕ) (x : HostState) → (with_turn at x ≡ x) ⊎ (with_turn at x ≡ turned_host at x)
+given_turn : (at : ℕ) (x : AskedConnection) → (with_turn at x ≡ x) ⊎ (with_turn at x ≡ turned_host at x)
 given_turn at x = by x.course.wanted
   where
     by : (b : Bool) → (cond b x (turned_host at x) ≡ x) ⊎ (cond b x (turned_host at x) ≡ turned_host at x)
     by true = inl refl
     by false = inr refl
 
-first_turn : (at : ℕ) (x h : HostState) (xs : List HostState) → with_turn at x ≡ h → Found at (x ∷ xs) 0 h
+first_turn : (at : ℕ) (x h : AskedConnection) (xs : List AskedConnection) → with_turn at x ≡ h → Found at (x ∷ xs) 0 h
 first_turn at x h xs e = (x, refl, elim (given_turn at x) [ inl s ↦ inl (sym e ∙ s) | inr s ↦ inr (sym e ∙ s) ])
 
-next_found : (at : ℕ) (hosts : List HostState) (c : ℕ) (h : HostState) → slice_get (with_next_turn at hosts) c ≡ Some h
+next_found : (at : ℕ) (hosts : List AskedConnection) (c : ℕ) (h : AskedConnection) → slice_get (with_next_turn at hosts) c ≡ Some h
     → Found at hosts c h
 next_found at [] c h get = absurd (cc)
 next_found at (x ∷ xs) c h get = by (is_settled x.course.stage) (next_found at xs) c get
   where
-    by : (b : Bool) → ((d : ℕ) (y : HostState) → slice_get (with_next_turn at xs) d ≡ Some y → Found at xs d y)
+    by : (b : Bool) → ((d : ℕ) (y : AskedConnection) → slice_get (with_next_turn at xs) d ≡ Some y → Found at xs d y)
         → (d : ℕ) → slice_get (cond b (x ∷ with_next_turn at xs) (with_turn at x ∷ xs)) d ≡ Some h → Found at (x ∷ xs) d h
     by true later zero is = (x, refl, inl (sym (same_Some x h is)))
     by true later (suc d) is = later d h is
     by false later zero is = first_turn at x h xs (same_Some (with_turn at x) h is)
     by false later (suc d) is = (h, is, inl refl)
 
-found : (m : Manner) (at : ℕ) (hosts : List HostState) (c : ℕ) (h : HostState)
+found : (m : Manner) (at : ℕ) (hosts : List AskedConnection) (c : ℕ) (h : AskedConnection)
     → slice_get (after_turns m at hosts) c ≡ Some h → Found at hosts c h
 found manners.AtOnce at hosts c h get = (h, get, inl refl)
 found manners.InOrder at hosts c h get = next_found at hosts c h get
@@ -106,13 +106,13 @@ found manners.InOrder at hosts c h get = next_found at hosts c h get
 -- ---- a history of its own
 
 -- a history of its own for these events of it
-record Owned (i : Inquiry) (host : Option AskedHost) (question : Question) (ds : List Event) (h : HostState) : Type 0 where
+record Owned (i : Inquiry) (host : Option AskedHost) (question : Question) (ds : List Event) (h : AskedConnection) : Type 0 where
   es : List Event
-  after : HostAfter i host question es h
+  after : AskedAfter i host question es h
   same : but_turns es ≡ but_turns ds
   reported : AreReported ds → AreReported es
 
-turn_then : (i : Inquiry) (host : Option AskedHost) (question : Question) (ds : List Event) (at : ℕ) (k h : HostState)
+turn_then : (i : Inquiry) (host : Option AskedHost) (question : Question) (ds : List Event) (at : ℕ) (k h : AskedConnection)
     → Owned i host question ds k → (h ≡ k) ⊎ (h ≡ turned_host at k) → Owned i host question ds h
 turn_then i host question ds at k h o (inl e) = subst (Owned i host question ds) (sym e) o
 turn_then i host question ds at k h o (inr e) = subst (Owned i host question ds) (sym e) (record {
@@ -123,7 +123,7 @@ turn_then i host question ds at k h o (inr e) = subst (Owned i host question ds)
 })
 
 told_owned : (i : Inquiry) (host : Option AskedHost) (question : Question) (o : Option Event) (ds : List Event)
-    (old new : HostState) → Owned i host question ds old → IsToldIf i question o old new
+    (old new : AskedConnection) → Owned i host question ds old → IsToldIf i question o old new
     → Owned i host question (option_to_list o ++ ds) new
 told_owned i host question None ds old new w told = subst (Owned i host question ds) (sym told) w
 told_owned i host question (Some e) ds old new w told = record {
@@ -136,33 +136,33 @@ told_owned i host question (Some e) ds old new w told = record {
     by : (b : Bool) → cond b (e ∷ but_turns w.es) (but_turns w.es) ≡ cond b (e ∷ but_turns ds) (but_turns ds)
     by b = ap (λ l. cond b (e ∷ l) l) w.same
 
-owned : (i : Inquiry) (history : List Entry) (hosts : List HostState) (c : ℕ) (question : Question) (host : Option AskedHost)
-    (h : HostState) → HostsAfter i history hosts → slice_get i.questions c ≡ Some question
-    → slice_get i.hosts c ≡ Some host → slice_get hosts c ≡ Some h → Owned i host question (own c i.start history) h
-owned i [] hosts c question host h after asked chosen at =
+owned : (i : Inquiry) (history : List Entry) (hosts : List AskedConnection) (c : ℕ) (h : AskedConnection)
+    (asks : AskedOn i c) → AllAskedAfter i history hosts → slice_get hosts c ≡ Some h
+    → Owned i asks.host asks.question (own c i.start history) h
+owned i [] hosts c h asks after at =
     let f = found i.manner i.start (map (first_host i) i.hosts) c h (ap (λ l. slice_get l c) (sym after) ∙ at) in
-    let first : f.0 ≡ first_host i host =
-    same_Some f.0 (first_host i host) (sym f.1 ∙ slice_get-map (first_host i) i.hosts c
-    ∙ ap (λ o. option_map (first_host i) o) chosen) in
-    turn_then i host question [] i.start f.0 h
+    let first : f.0 ≡ first_host i asks.host =
+    same_Some f.0 (first_host i asks.host) (sym f.1 ∙ slice_get-map (first_host i) i.hosts c
+    ∙ ap (λ o. option_map (first_host i) o) asks.has_host) in
+    turn_then i asks.host asks.question [] i.start f.0 h
     (record { es = []; after = first; same = refl; reported = λ r. r }) f.2
-owned i (x ∷ xs) hosts c question host h after asked chosen at =
+owned i (x ∷ xs) hosts c h asks after at =
     let passed = passed_in i.start xs in
     let f = found i.manner (time_in passed x) after.1 c h (ap (λ l. slice_get l c) (sym after.4) ∙ at) in
     let was = get_or after.0 c f.0 in
     let there : slice_get after.0 c ≡ Some was = beside after.0 after.1 c f.0 after.3.size f.1 in
-    turn_then i host question (own c i.start (x ∷ xs)) (time_in passed x) f.0 h
-    (told_owned i host question (own_event c passed x) (own c i.start xs) was f.0
-    (owned i xs after.0 c question host was after.2 asked chosen there)
-    (after.3.each c question was f.0 asked there f.1)) f.2
+    turn_then i asks.host asks.question (own c i.start (x ∷ xs)) (time_in passed x) f.0 h
+    (told_owned i asks.host asks.question (own_event c passed x) (own c i.start xs) was f.0
+    (owned i xs after.0 c was asks after.2 there)
+    (after.3.each c asks.question was f.0 asks.has_question there f.1)) f.2
 
 pub turns_of : TurnsLaw
-turns_of i history hosts c question host h after asked chosen at =
-    let o = owned i history hosts c question host h after asked chosen at in (o.es, o.after, o.same)
+turns_of i history hosts c h asks after at =
+    let o = owned i history hosts c h asks after at in (o.es, o.after, o.same)
 
-pub own_history : (i : Inquiry) (history : List Entry) (hosts : List HostState) (c : ℕ) (question : Question)
-    (host : Option AskedHost) (h : HostState) → HostsAfter i history hosts → AreReported (own c i.start history)
-    → slice_get i.questions c ≡ Some question → slice_get i.hosts c ≡ Some host → slice_get hosts c ≡ Some h
-    → (es : List Event) × AreReported es × HostAfter i host question es h
-own_history i history hosts c question host h after reported asked chosen at =
-    let o = owned i history hosts c question host h after asked chosen at in (o.es, o.reported reported, o.after)
+-- a history of its own, of which each event was reported or is a turn
+pub own_history : (i : Inquiry) (history : List Entry) (hosts : List AskedConnection) (c : ℕ) (h : AskedConnection)
+    (asks : AskedOn i c) → AllAskedAfter i history hosts → AreReported (own c i.start history)
+    → slice_get hosts c ≡ Some h → (es : List Event) × AreReported es × AskedAfter i asks.host asks.question es h
+own_history i history hosts c h asks after reported at =
+    let o = owned i history hosts c h asks after at in (o.es, o.reported reported, o.after)

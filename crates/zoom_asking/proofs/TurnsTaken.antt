@@ -14,13 +14,13 @@ use Rattle.zoom_asking.specs.declared.inquiry.Manner.{Manner}
 use Rattle.zoom_asking.specs.declared.inquiry.Manner.TheVariants as manners
 use Rattle.zoom_asking.specs.Buffers.{octets_in}
 use Rattle.zoom_asking.specs.Inquiries.{Inquiry, is_at_once}
-use Rattle.zoom_asking.specs.Hosts.{HostState}
+use Rattle.zoom_asking.specs.Hosts.{AskedConnection}
 use Rattle.zoom_asking.specs.Askings.{Holds, with_turn, with_next_turn, after_turns, tasks_for, unsent_at}
 use Rattle.zoom_asking.proofs.Queues.{tasks_append, tasks_same, tasks_other}
 use Rattle.zoom_pool.specs.Metas.{MetaAfter}
 
-abbrev courses_of : List HostState → List Course
-courses_of hosts = map (λ (h : HostState). h.course) hosts
+abbrev courses_of : List AskedConnection → List Course
+courses_of hosts = map (λ (h : AskedConnection). h.course) hosts
 
 -- tasks for connections from number j on are none of an earlier one's
 none_for : (at d j : ℕ) (ps : List Course) → d < j → tasks_for d (next_turn_tasks at j ps) ≡ []
@@ -37,18 +37,18 @@ none_for at d j (p ∷ ps) lt = by (is_settled p.stage) (none_for at d (j + 1) p
     turn false = tasks_other d j (tasks_of (event at signals.Turn) p) (λ e. omega arith)
 
 -- what the turn changes of one connection
-pub record TurnedHost (at d : ℕ) (tasks : List Action) (hosts : List HostState) (c : ℕ) (y : HostState) : Type 0 where
-  pub host : HostState
+pub record TurnedHost (at d : ℕ) (tasks : List Action) (hosts : List AskedConnection) (c : ℕ) (y : AskedConnection) : Type 0 where
+  pub host : AskedConnection
   pub stands : slice_get hosts c ≡ Some host
   pub events : y.events ≡ host.events
   pub tasks_are : y.tasks ≡ host.tasks ++ tasks_for d tasks
 
-abbrev TurnAt : ℕ → ℕ → List HostState → Type 0
+abbrev TurnAt : ℕ → ℕ → List AskedConnection → Type 0
 TurnAt at i hosts =
-    (c : ℕ) (y : HostState) → slice_get (with_next_turn at hosts) c ≡ Some y
+    (c : ℕ) (y : AskedConnection) → slice_get (with_next_turn at hosts) c ≡ Some y
     → TurnedHost at (i + c) (next_turn_tasks at i (courses_of hosts)) hosts c y
 
-first_over : (at i : ℕ) (h : HostState) (hs : List HostState) → TurnAt at (i + 1) hs → (c : ℕ) (y : HostState)
+first_over : (at i : ℕ) (h : AskedConnection) (hs : List AskedConnection) → TurnAt at (i + 1) hs → (c : ℕ) (y : AskedConnection)
     → slice_get (h ∷ with_next_turn at hs) c ≡ Some y
     → TurnedHost at (i + c) (next_turn_tasks at (i + 1) (courses_of hs)) (h ∷ hs) c y
 first_over at i h hs later zero y get =
@@ -56,8 +56,8 @@ first_over at i h hs later zero y get =
     record {
       host = h;
       stands = refl;
-      events = ap (λ (x : HostState). x.events) (sym e);
-      tasks_are = ap (λ (x : HostState). x.tasks) (sym e) ∙ sym (append-nil h.tasks)
+      events = ap (λ (x : AskedConnection). x.events) (sym e);
+      tasks_are = ap (λ (x : AskedConnection). x.tasks) (sym e) ∙ sym (append-nil h.tasks)
           ∙ ap (λ l. h.tasks ++ l) (sym (none_for at (i + 0) (i + 1) (courses_of hs) (omega arith)));
     }
 first_over at i h hs later (suc c) y get =
@@ -70,7 +70,7 @@ first_over at i h hs later (suc c) y get =
       tasks_are = t.tasks_are ∙ ap (λ d. t.host.tasks ++ tasks_for d (next_turn_tasks at (i + 1) (courses_of hs))) e;
     }
 
-first_turned : (at i : ℕ) (h : HostState) (hs : List HostState) (c : ℕ) (y : HostState)
+first_turned : (at i : ℕ) (h : AskedConnection) (hs : List AskedConnection) (c : ℕ) (y : AskedConnection)
     → slice_get (with_turn at h ∷ hs) c ≡ Some y → TurnedHost at (i + c) (turn_tasks at i h.course) (h ∷ hs) c y
 first_turned at i h hs zero y get = by h.course.wanted refl
   where
@@ -83,18 +83,18 @@ first_turned at i h hs zero y get = by h.course.wanted refl
         record {
           host = h;
           stands = refl;
-          events = ap (λ (x : HostState). x.events) (sym is ∙ same);
-          tasks_are = ap (λ (x : HostState). x.tasks) (sym is ∙ same) ∙ sym (append-nil h.tasks)
+          events = ap (λ (x : AskedConnection). x.events) (sym is ∙ same);
+          tasks_are = ap (λ (x : AskedConnection). x.tasks) (sym is ∙ same) ∙ sym (append-nil h.tasks)
               ∙ ap (λ b. h.tasks ++ tasks_for (i + 0) (cond b [] (all_for i (tasks_of (event at signals.Turn) h.course)))) (sym e);
         }
     by false e =
-        let turned : HostState = record { course = step (event at signals.Turn) h.course; events = h.events; tasks = h.tasks ++ tasks_of (event at signals.Turn) h.course } in
+        let turned : AskedConnection = record { course = step (event at signals.Turn) h.course; events = h.events; tasks = h.tasks ++ tasks_of (event at signals.Turn) h.course } in
         let same : with_turn at h ≡ turned = ap (λ b. cond b h turned) e in
         record {
           host = h;
           stands = refl;
-          events = ap (λ (x : HostState). x.events) (sym is ∙ same);
-          tasks_are = ap (λ (x : HostState). x.tasks) (sym is ∙ same)
+          events = ap (λ (x : AskedConnection). x.events) (sym is ∙ same);
+          tasks_are = ap (λ (x : AskedConnection). x.tasks) (sym is ∙ same)
               ∙ ap (λ l. h.tasks ++ l) (sym (tasks_same i (tasks_of (event at signals.Turn) h.course)))
               ∙ ap (λ d. h.tasks ++ tasks_for d (all_for i (tasks_of (event at signals.Turn) h.course))) (sym (add-zero i))
               ∙ ap (λ b. h.tasks ++ tasks_for (i + 0) (cond b [] (all_for i (tasks_of (event at signals.Turn) h.course)))) (sym e);
@@ -110,22 +110,22 @@ first_turned at i h hs (suc c) y get = record {
     by true = refl
     by false = tasks_other (i + suc c) i (tasks_of (event at signals.Turn) h.course) (λ e. omega arith)
 
-turn_at : (at i : ℕ) (hosts : List HostState) → TurnAt at i hosts
+turn_at : (at i : ℕ) (hosts : List AskedConnection) → TurnAt at i hosts
 turn_at at i [] c y get = absurd (cc)
 turn_at at i (h ∷ hs) c y get = by (is_settled h.course.stage) (first_over at i h hs (turn_at at (i + 1) hs)) (first_turned at i h hs) c y get
   where
     by : (b : Bool)
-        → ((c : ℕ) (y : HostState) → slice_get (h ∷ with_next_turn at hs) c ≡ Some y
+        → ((c : ℕ) (y : AskedConnection) → slice_get (h ∷ with_next_turn at hs) c ≡ Some y
         → TurnedHost at (i + c) (next_turn_tasks at (i + 1) (courses_of hs)) (h ∷ hs) c y)
-        → ((c : ℕ) (y : HostState) → slice_get (with_turn at h ∷ hs) c ≡ Some y
+        → ((c : ℕ) (y : AskedConnection) → slice_get (with_turn at h ∷ hs) c ≡ Some y
         → TurnedHost at (i + c) (turn_tasks at i h.course) (h ∷ hs) c y)
-        → (c : ℕ) (y : HostState) → slice_get (cond b (h ∷ with_next_turn at hs) (with_turn at h ∷ hs)) c ≡ Some y
+        → (c : ℕ) (y : AskedConnection) → slice_get (cond b (h ∷ with_next_turn at hs) (with_turn at h ∷ hs)) c ≡ Some y
         → TurnedHost at (i + c) (cond b (next_turn_tasks at (i + 1) (courses_of hs)) (turn_tasks at i h.course)) (h ∷ hs) c y
     by true over turned = over
     by false over turned = turned
 
 -- the courses are those of the clock
-turned_course : (at : ℕ) (h : HostState) → (with_turn at h).course ≡ clocks.with_turn at h.course
+turned_course : (at : ℕ) (h : AskedConnection) → (with_turn at h).course ≡ clocks.with_turn at h.course
 turned_course at h = by h.course.wanted
   where
     by : (b : Bool)
@@ -134,7 +134,7 @@ turned_course at h = by h.course.wanted
     by true = refl
     by false = refl
 
-turned_courses : (at : ℕ) (hosts : List HostState)
+turned_courses : (at : ℕ) (hosts : List AskedConnection)
     → courses_of (with_next_turn at hosts) ≡ clocks.with_next_turn at (courses_of hosts)
 turned_courses at [] = refl
 turned_courses at (h ∷ hs) = by (is_settled h.course.stage) (turned_courses at hs) (turned_course at h)
@@ -146,7 +146,7 @@ turned_courses at (h ∷ hs) = by (is_settled h.course.stage) (turned_courses at
     by true later here = ap (λ l. h.course ∷ l) later
     by false later here = ap (λ x. x ∷ courses_of hs) here
 
-turned_size : (at : ℕ) (hosts : List HostState) → length (with_next_turn at hosts) ≡ length hosts
+turned_size : (at : ℕ) (hosts : List AskedConnection) → length (with_next_turn at hosts) ≡ length hosts
 turned_size at [] = refl
 turned_size at (h ∷ hs) = by (is_settled h.course.stage) (turned_size at hs)
   where
@@ -156,9 +156,9 @@ turned_size at (h ∷ hs) = by (is_settled h.course.stage) (turned_size at hs)
     by false later = refl
 
 module _ (at : ℕ) (old new : Asking) (t : AfterTurns at old.clock new.clock) (meta : new.meta ≡ old.meta)
-    (unsent : new.unsent ≡ old.unsent) (i : Inquiry) (hosts : List HostState) (o : Holds i hosts old)
+    (unsent : new.unsent ≡ old.unsent) (i : Inquiry) (hosts : List AskedConnection) (o : Holds i hosts old)
   where
-    still_unsent : (c : ℕ) (h : HostState) → slice_get hosts c ≡ Some h → (out : List ℕ) × (given h.events ≡ out ++ unsent_at new c)
+    still_unsent : (c : ℕ) (h : AskedConnection) → slice_get hosts c ≡ Some h → (out : List ℕ) × (given h.events ≡ out ++ unsent_at new c)
     still_unsent c h get =
         let u = o.unsent c h get in (u.0, u.1 ∙ ap (λ b. u.0 ++ octets_in (slice_get b.items c)) (sym unsent))
 

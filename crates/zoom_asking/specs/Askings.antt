@@ -21,23 +21,24 @@ use Rattle.zoom_asking.specs.declared.inquiry.AskedHost.{AskedHost}
 use Rattle.zoom_asking.specs.declared.inquiry.Manner.{Manner}
 use Rattle.zoom_asking.specs.declared.inquiry.Manner.TheVariants as manners
 use Rattle.zoom_asking.specs.Buffers.{octets_in}
+use Rattle.zoom_asking.specs.Talks.{Relation}
 use Rattle.zoom_asking.specs.Steps.{IsExtended}
 use Rattle.zoom_asking.specs.Inquiries.{Inquiry, addresses_of, is_at_once, Entry, Event, Reported, Passed, GivenUp, own_event, passed_in}
-use Rattle.zoom_asking.specs.Hosts.{HostState, IsNoted, IsFed, IsTold, course_of, first_host}
+use Rattle.zoom_asking.specs.Hosts.{AskedConnection, IsNoted, IsFed, IsTold, course_of, first_host, new_sends}
 
 -- what an entry tells of a connection, if anything
-abbrev pub IsToldIf : Inquiry → Question → Option Event → HostState → HostState → Type 0
+abbrev pub IsToldIf : Inquiry → Question → Option Event → AskedConnection → AskedConnection → Type 0
 IsToldIf i question None old new = new ≡ old
 IsToldIf i question (Some e) old new = IsTold i.settings question e.at e.told old new
 
 -- each connection was told what the entry tells of it
-pub record AreTold (i : Inquiry) (passed : ℕ) (x : Entry) (old new : List HostState) : Type 0 where
+pub record AreTold (i : Inquiry) (passed : ℕ) (x : Entry) (old new : List AskedConnection) : Type 0 where
   pub size : length new ≡ length old
-  pub each : (c : ℕ) (question : Question) (h g : HostState) → slice_get i.questions c ≡ Some question
+  pub each : (c : ℕ) (question : Question) (h g : AskedConnection) → slice_get i.questions c ≡ Some question
       → slice_get old c ≡ Some h → slice_get new c ≡ Some g → IsToldIf i question (own_event c passed x) h g
 
 -- its turn has come
-abbrev pub with_turn : ℕ → HostState → HostState
+abbrev pub with_turn : ℕ → AskedConnection → AskedConnection
 with_turn at h =
     if h.course.wanted then h
     else record {
@@ -47,13 +48,13 @@ with_turn at h =
     }
 
 -- the turn is that of the first connection that is not over
-abbrev pub with_next_turn : ℕ → List HostState → List HostState
+abbrev pub with_next_turn : ℕ → List AskedConnection → List AskedConnection
 with_next_turn at [] = []
 with_next_turn at (h ∷ hs) =
     if is_settled h.course.stage then h ∷ with_next_turn at hs else with_turn at h ∷ hs
 
 -- at once, nobody waits for a turn
-abbrev pub after_turns : Manner → ℕ → List HostState → List HostState
+abbrev pub after_turns : Manner → ℕ → List AskedConnection → List AskedConnection
 after_turns manners.AtOnce at hosts = hosts
 after_turns manners.InOrder at hosts = with_next_turn at hosts
 
@@ -64,10 +65,10 @@ time_in passed (Passed at) = max passed at
 time_in passed (GivenUp at) = max passed at
 
 -- The connections after a history: each was told what was reported of it, and then the turns were given.
-abbrev pub HostsAfter : Inquiry → List Entry → List HostState → Type 0
-HostsAfter i [] hosts = hosts ≡ after_turns i.manner i.start (map (first_host i) i.hosts)
-HostsAfter i (x ∷ xs) hosts =
-    (old mid : List HostState) × HostsAfter i xs old × AreTold i (passed_in i.start xs) x old mid
+abbrev pub AllAskedAfter : Inquiry → List Entry → List AskedConnection → Type 0
+AllAskedAfter i [] hosts = hosts ≡ after_turns i.manner i.start (map (first_host i) i.hosts)
+AllAskedAfter i (x ∷ xs) hosts =
+    (old mid : List AskedConnection) × AllAskedAfter i xs old × AreTold i (passed_in i.start xs) x old mid
     × (hosts ≡ after_turns i.manner (time_in (passed_in i.start xs) x) mid)
 
 -- the octets that wait to be sent on connection c
@@ -88,27 +89,27 @@ abbrev pub tasks_for : ℕ → List Action → List Task
 tasks_for c actions = map (λ (x : Action). x.task) (filter (λ (x : Action). x.c == c) actions)
 
 -- The asking has connections that stand so.
-pub record Holds (i : Inquiry) (hosts : List HostState) (a : Asking) : Type 0 where
+pub record Holds (i : Inquiry) (hosts : List AskedConnection) (a : Asking) : Type 0 where
   pub size : length hosts ≡ length i.questions
-  pub courses : a.clock.courses.items ≡ map (λ (h : HostState). h.course) hosts
+  pub courses : a.clock.courses.items ≡ map (λ (h : AskedConnection). h.course) hosts
   -- the events of each connection, in a history of the pool
   pub pool : History
   pub meta : MetaAfter i.questions i.settings pool a.meta
-  pub events : (c : ℕ) (h : HostState) → slice_get hosts c ≡ Some h → events_on c pool ≡ h.events
+  pub events : (c : ℕ) (h : AskedConnection) → slice_get hosts c ≡ Some h → events_on c pool ≡ h.events
   -- what was handed out to be sent: some octets are sent, and these wait
-  pub unsent : (c : ℕ) (h : HostState) → slice_get hosts c ≡ Some h
+  pub unsent : (c : ℕ) (h : AskedConnection) → slice_get hosts c ≡ Some h
       → (out : List ℕ) × (given h.events ≡ out ++ unsent_at a c)
   -- what is to be done: some tasks are handed out, and these wait
   pub done : List Action
-  pub queue : (c : ℕ) (h : HostState) → slice_get hosts c ≡ Some h
+  pub queue : (c : ℕ) (h : AskedConnection) → slice_get hosts c ≡ Some h
       → tasks_for c (done ++ a.clock.queue.items) ≡ h.tasks
   pub orderly : IsOrderly a.clock
   pub in_order : a.clock.in_order ≡ not (is_at_once i.manner)
 
 -- The history can have left this asking.
 pub record AskingAfter (i : Inquiry) (history : List Entry) (a : Asking) : Type 0 where
-  pub hosts : List HostState
-  pub after : HostsAfter i history hosts
+  pub hosts : List AskedConnection
+  pub after : AllAskedAfter i history hosts
   pub holds : Holds i hosts a
   pub passed : a.clock.passed ≡ passed_in i.start history
 
@@ -121,17 +122,13 @@ IsEntered x old new =
 abbrev pub KeepsHistories : Asking → Asking → Type 0
 KeepsHistories old new = (i : Inquiry) (history : List Entry) → AskingAfter i history old → AskingAfter i history new
 
--- octets that did not wait before are to be sent, if a write can send them
-abbrev pub new_sends : Bool → List ℕ → List ℕ → List Task
-new_sends lost waited waits = if not lost && nat_lt (length waited) (length waits) then Send ∷ [] else []
-
 -- a task to send was added, if this holds
 abbrev pub IsSendPut : ℕ → Bool → Asking → Asking → Type 0
 IsSendPut c waits old new = IsSame old.clock (if waits then for_connection c Send ∷ [] else []) new.clock
 
 -- One connection was talked with: its events are related so to those before, and what waits is to be sent.
 pub record IsTalkedOn
-    (c : ℕ) (R : MetaSettings → Question → List pool.Event → List pool.Event → Type 0) (lost : Bool) (old new : Asking)
+    (c : ℕ) (R : Relation) (lost : Bool) (old new : Asking)
     : Type 0 where
   pub meta : IsExtended c R old.meta new.meta (unsent_at old c) (unsent_at new c)
   pub others : (d : ℕ) → (c == d) ≡ false → unsent_at new d ≡ unsent_at old d
@@ -140,26 +137,26 @@ pub record IsTalkedOn
 -- one connection was told something, and the others were not
 abbrev pub IsOneTold : ℕ → ℕ → Signal → Asking → Asking → Type 0
 IsOneTold c at what old new =
-    (i : Inquiry) (hosts : List HostState) (h : HostState) (question : Question) → Holds i hosts old
+    (i : Inquiry) (hosts : List AskedConnection) (h : AskedConnection) (question : Question) → Holds i hosts old
     → slice_get hosts c ≡ Some h → slice_get i.questions c ≡ Some question
-    → (g : HostState) × IsNoted i.settings question at what h.events h g × Holds i (slice_set hosts c g) new
+    → (g : AskedConnection) × IsNoted i.settings question at what h.events h g × Holds i (slice_set hosts c g) new
 
 -- octets came on one connection
 abbrev pub IsOneFed : ℕ → ℕ → List ℕ → Asking → Asking → Type 0
 IsOneFed c at piece old new =
-    (i : Inquiry) (hosts : List HostState) (h : HostState) (question : Question) → Holds i hosts old
+    (i : Inquiry) (hosts : List AskedConnection) (h : AskedConnection) (question : Question) → Holds i hosts old
     → slice_get hosts c ≡ Some h → slice_get i.questions c ≡ Some question
-    → (g : HostState) × IsFed i.settings question at piece h.course.stage h g × Holds i (slice_set hosts c g) new
+    → (g : AskedConnection) × IsFed i.settings question at piece h.course.stage h g × Holds i (slice_set hosts c g) new
 
 -- the turns were given
 abbrev pub HasTurned : ℕ → Asking → Asking → Type 0
 HasTurned at old new =
-    (i : Inquiry) (hosts : List HostState) → Holds i hosts old → Holds i (after_turns i.manner at hosts) new
+    (i : Inquiry) (hosts : List AskedConnection) → Holds i hosts old → Holds i (after_turns i.manner at hosts) new
 
 -- ---- the start
 
 -- a connection before its first closing
-abbrev pub fresh_host : Inquiry → Option AskedHost → HostState
+abbrev pub fresh_host : Inquiry → Option AskedHost → AskedConnection
 fresh_host i host = record {
   course = course_of i host;
   events = [];
@@ -167,7 +164,7 @@ fresh_host i host = record {
 }
 
 -- the first of the connections that are over at the start were closed
-abbrev pub begun_to : Inquiry → ℕ → List (Option AskedHost) → List HostState
+abbrev pub begun_to : Inquiry → ℕ → List (Option AskedHost) → List AskedConnection
 begun_to i n [] = []
 begun_to i zero (host ∷ hosts) = fresh_host i host ∷ begun_to i zero hosts
 begun_to i (suc n) (host ∷ hosts) = first_host i host ∷ begun_to i n hosts
@@ -188,10 +185,10 @@ IsWakeAt a r =
     (i : Inquiry) (history : List Entry) → AskingAfter i history a → IsLeastWake a.clock.courses.items r
 
 -- each connection is over, or was not chosen; or some one is not
-abbrev pub AreOver : Bool → List HostState → Type 0
-AreOver true hosts = (c : ℕ) (h : HostState) → slice_get hosts c ≡ Some h → is_settled h.course.stage ≡ true
+abbrev pub AreOver : Bool → List AskedConnection → Type 0
+AreOver true hosts = (c : ℕ) (h : AskedConnection) → slice_get hosts c ≡ Some h → is_settled h.course.stage ≡ true
 AreOver false hosts =
-    (c : ℕ) × (h : HostState) × (slice_get hosts c ≡ Some h) × (is_settled h.course.stage ≡ false)
+    (c : ℕ) × (h : AskedConnection) × (slice_get hosts c ≡ Some h) × (is_settled h.course.stage ≡ false)
 
 -- the result is true if each connection is over or was not chosen, and else false
 abbrev pub IsOverAt : Asking → Bool → Type 0

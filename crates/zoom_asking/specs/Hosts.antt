@@ -1,4 +1,4 @@
--- What became of one connection, as a function of what was told of it.
+-- What became of one connection, as a function of what was told of it (Z39.50-2003, 3.2).
 use Rattle.std.specs.Prelude.{◌≡◌, ℕ, nat_lt, Bool, false, not, ◌&&◌, if◌then◌else◌, List, [], ◌∷◌, ◌++◌, length, Option}
 use Rattle.zoom_questions.specs.declared.question.Question.{Question}
 use Rattle.zoom_questions.specs.declared.question.MetaSettings.{MetaSettings}
@@ -8,7 +8,7 @@ use Rattle.zoom_clock.specs.declared.action.Task.TheVariants.{Send}
 use Rattle.zoom_clock.specs.declared.course.Course.{Course}
 use Rattle.zoom_clock.specs.declared.signal.Signal.{Signal}
 use Rattle.zoom_clock.specs.declared.signal.Signal.TheVariants as signals
-use Rattle.zoom_clock.specs.declared.signal.Standing.{Standing}
+use Rattle.zoom_clock.specs.declared.signal.Condition.{Condition}
 use Rattle.zoom_clock.specs.declared.stage.Stage.{Stage}
 use Rattle.zoom_clock.specs.declared.stage.Stage.TheVariants.{Talking, Over}
 use Rattle.zoom_clock.specs.Courses.{event, step, tasks_of, first_course}
@@ -18,10 +18,10 @@ use Rattle.zoom_asking.specs.declared.change.Change.{Change}
 use Rattle.zoom_asking.specs.declared.change.Change.TheVariants as changes
 use Rattle.zoom_asking.specs.Changes.{change_between}
 use Rattle.zoom_asking.specs.Inquiries.{Inquiry, Told, Came, Noted, Event, is_at_once, limits_of, addresses_of}
-use Rattle.zoom_asking.specs.Talks.{IsDriven, IsHeard, IsStanding, IsClosed, closing}
+use Rattle.zoom_asking.specs.Talks.{IsDriven, IsHeard, IsCondition, IsClosed, closing}
 
 -- One connection: its course; its events, newest first; and all that was to be done for it, the first thing first.
-pub record HostState : Type 0 where
+pub record AskedConnection : Type 0 where
   pub course : Course
   pub events : List pool.Event
   pub tasks : List Task
@@ -33,8 +33,12 @@ AfterChange changes.Opened s question old new = IsDriven s question old new
 AfterChange (changes.Ended ending) s question old new = IsClosed ending s question old new
 
 -- octets wait to be sent that did not before, and a write can send them
+abbrev pub new_sends : Bool → List ℕ → List ℕ → List Task
+new_sends lost waited waits = if not lost && nat_lt (length waited) (length waits) then Send ∷ [] else []
+
+-- the same, by the octets that events handed out
 abbrev pub sends : Bool → List pool.Event → List pool.Event → List Task
-sends lost old new = if not lost && nat_lt (length (pool.given old)) (length (pool.given new)) then Send ∷ [] else []
+sends lost old new = new_sends lost (pool.given old) (pool.given new)
 
 -- a write failed on the connection
 abbrev pub is_lost_at : Stage → Bool
@@ -43,7 +47,8 @@ is_lost_at _ = false
 
 -- a signal was noted, after these events
 pub record IsNoted
-    (s : MetaSettings) (question : Question) (at : ℕ) (what : Signal) (events : List pool.Event) (old new : HostState)
+    (s : MetaSettings) (question : Question) (at : ℕ) (what : Signal) (events : List pool.Event)
+    (old new : AskedConnection)
     : Type 0 where
   pub course : new.course ≡ step (event at what) old.course
   pub changed : AfterChange (change_between old.course.stage new.course.stage) s question events new.events
@@ -53,20 +58,20 @@ pub record IsNoted
 
 -- octets came on a connection that is talked with: they were heard, and how it stands was noted
 pub record HasHeard
-    (s : MetaSettings) (question : Question) (at : ℕ) (piece : List ℕ) (old new : HostState) : Type 0 where
+    (s : MetaSettings) (question : Question) (at : ℕ) (piece : List ℕ) (old new : AskedConnection) : Type 0 where
   pub heard : List pool.Event
   pub hears : IsHeard piece s question old.events heard
-  pub standing : Standing
-  pub stands : IsStanding s heard standing
-  pub noted : IsNoted s question at (signals.Octets standing) heard old new
+  pub condition : Condition
+  pub stands : IsCondition s heard condition
+  pub noted : IsNoted s question at (signals.Octets condition) heard old new
 
 -- octets came: of a connection that is not talked with they change nothing
-abbrev pub IsFed : MetaSettings → Question → ℕ → List ℕ → Stage → HostState → HostState → Type 0
+abbrev pub IsFed : MetaSettings → Question → ℕ → List ℕ → Stage → AskedConnection → AskedConnection → Type 0
 IsFed s question at piece (Talking t) old new = HasHeard s question at piece old new
 IsFed s question at piece _ old new = new ≡ old
 
 -- this was told of the connection
-abbrev pub IsTold : MetaSettings → Question → ℕ → Told → HostState → HostState → Type 0
+abbrev pub IsTold : MetaSettings → Question → ℕ → Told → AskedConnection → AskedConnection → Type 0
 IsTold s question at (Came piece) old new = IsFed s question at piece old.course.stage old new
 IsTold s question at (Noted what) old new = IsNoted s question at what old.events old new
 
@@ -80,7 +85,7 @@ course_of i host =
     first_course (limits_of i.manner i.total host) (addresses_of host) i.start (is_at_once i.manner)
 
 -- a connection at the start
-abbrev pub first_host : Inquiry → Option AskedHost → HostState
+abbrev pub first_host : Inquiry → Option AskedHost → AskedConnection
 first_host i host = record {
   course = course_of i host;
   events = first_events (course_of i host).stage;
@@ -88,7 +93,7 @@ first_host i host = record {
 }
 
 -- the connection after this was told of it, newest first
-abbrev pub HostAfter : Inquiry → Option AskedHost → Question → List Event → HostState → Type 0
-HostAfter i host question [] new = new ≡ first_host i host
-HostAfter i host question (e ∷ es) new =
-    (old : HostState) × HostAfter i host question es old × IsTold i.settings question e.at e.told old new
+abbrev pub AskedAfter : Inquiry → Option AskedHost → Question → List Event → AskedConnection → Type 0
+AskedAfter i host question [] new = new ≡ first_host i host
+AskedAfter i host question (e ∷ es) new =
+    (old : AskedConnection) × AskedAfter i host question es old × IsTold i.settings question e.at e.told old new

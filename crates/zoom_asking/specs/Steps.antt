@@ -8,10 +8,10 @@ use Rattle.zoom_pool.specs.declared.step.TakeError.{TakeError}
 use Rattle.zoom_pool.specs.Transcripts.{Event, Took, given, is_message}
 use Rattle.zoom_pool.specs.History.{History, events_on}
 use Rattle.zoom_pool.specs.Metas.{MetaLinks, MetaAfter}
-use Rattle.zoom_clock.specs.declared.signal.Standing.{Standing}
+use Rattle.zoom_clock.specs.declared.signal.Condition.{Condition}
 use Rattle.zoom_asking.specs.declared.talk.Receipt.{Receipt}
 use Rattle.zoom_asking.specs.declared.talk.Receipt.TheVariants as receipts
-use Rattle.zoom_asking.specs.Talks.{IsNextResult, IsLastResult, IsStanding}
+use Rattle.zoom_asking.specs.Talks.{Relation, IsNextResult, IsLastResult, IsCondition}
 
 -- A history of the pool with new events of connection c alone, which are related so to those before. Octets were
 -- handed out, and wait behind those that waited.
@@ -29,7 +29,7 @@ pub record Extended
 
 -- the same for each history that can have left the old connections
 abbrev pub IsExtended
-    : ℕ → (MetaSettings → Question → List Event → List Event → Type 0) → MetaLinks → MetaLinks → List ℕ → List ℕ → Type 0
+    : ℕ → Relation → MetaLinks → MetaLinks → List ℕ → List ℕ → Type 0
 IsExtended c R old new waited waits =
     (questions : List Question) (s : MetaSettings) (pool : History) (question : Question)
     → MetaAfter questions s pool old → slice_get questions c ≡ Some question
@@ -54,7 +54,7 @@ receipt_of steps.Ended = receipts.Over
 receipt_of steps.Stopped = receipts.Over
 
 -- this is how connection c stands, for each history that can have left the connections
-abbrev pub IsStandingAt : ℕ → MetaLinks → Standing → Type 0
-IsStandingAt c meta standing =
+abbrev pub IsConditionAt : ℕ → MetaLinks → Condition → Type 0
+IsConditionAt c meta condition =
     (questions : List Question) (s : MetaSettings) (pool : History) → MetaAfter questions s pool meta
-    → IsStanding s (events_on c pool) standing
+    → IsCondition s (events_on c pool) condition

@@ -15,8 +15,12 @@ use Rattle.zoom_pool.specs.Steering.{errand_of}
 use Rattle.zoom_pool.specs.Metas.{IsIdleUnlessStopped, IsSearchTried, settings_of}
 use Rattle.zoom_clock.specs.declared.signal.Ending.{Ending}
 use Rattle.zoom_clock.specs.declared.signal.Ending.TheVariants as endings
-use Rattle.zoom_clock.specs.declared.signal.Standing.{Standing}
-use Rattle.zoom_clock.specs.declared.signal.Standing.TheVariants as standings
+use Rattle.zoom_clock.specs.declared.signal.Condition.{Condition}
+use Rattle.zoom_clock.specs.declared.signal.Condition.TheVariants as conditions
+
+-- how the events of a connection are related to those before, by the settings and its question
+abbrev pub Relation : Type 1
+Relation = MetaSettings → Question → List Event → List Event → Type 0
 
 -- what the next take of a connection with these events returns
 abbrev pub IsNextResult : MetaSettings → List Event → Result Step TakeError → Type 0
@@ -54,16 +58,16 @@ abbrev pub IsHeard : List ℕ → MetaSettings → Question → List Event → L
 IsHeard piece s question old new = AreTaken s question (Fed piece ∷ old) new
 
 -- how a connection stands that is in this state
-abbrev pub standing_in : State → Standing
-standing_in states.Closed = standings.Finished
-standing_in (states.Failed reason) = standings.Finished
-standing_in states.Closing = standings.Leaving
-standing_in _ = standings.Going
+abbrev pub condition_in : State → Condition
+condition_in states.Closed = conditions.Finished
+condition_in (states.Failed reason) = conditions.Finished
+condition_in states.Closing = conditions.Leaving
+condition_in _ = conditions.Going
 
 -- how a connection with these events stands
-abbrev pub IsStanding : MetaSettings → List Event → Standing → Type 0
-IsStanding s events standing =
-    (p : Transcript) → IsTranscript (settings_of s) events p → standing ≡ standing_in (state_at p)
+abbrev pub IsCondition : MetaSettings → List Event → Condition → Type 0
+IsCondition s events condition =
+    (p : Transcript) → IsTranscript (settings_of s) events p → condition ≡ condition_in (state_at p)
 
 -- the events of a connection that has ended so
 abbrev pub closing : Ending → List Event → List Event

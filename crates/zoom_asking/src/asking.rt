@@ -5,18 +5,18 @@ ghost use Rattle.zoom_asking.specs.Buffers.{AreEmpty};
 
 use crate::change::{Change, change_of, ending_of, kind_of, lost_of};
 use crate::inquiry::{AskedHost, Manner, Report, is_in_order, plans_of, signal_of};
-use crate::talk::{close, drive, hear, standing};
+use crate::talk::{close, condition, drive, hear};
 use std::alloc::{AllocError, Global};
 use zber::Seq;
-use zoom_clock::{Action, Clock, Ending, Signal, Standing, Task};
+use zoom_clock::{Action, Clock, Condition, Ending, Signal, Task};
 use zoom_pool::{Meta, MetaSettings, Question};
 
 /// Asks many hosts: each connection has a question, and a host if it is chosen. It is told what happened and when,
 /// and says what to do (`next_action`) and when it wants to be woken (`wake_at`). Times are nanoseconds of its
 /// caller's clock; one that goes back counts as the latest that is known.
 ///
-/// Each call that has a `c` requires it to be below `connections()`. After a call that found no memory, what is known
-/// is still right, but no call promises more.
+/// Each call that has a `c` requires it to be below `connections()`. After a call that found no memory, besides
+/// `outgoing`, no call promises more.
 #[derive(Drop)]
 pub struct Asking {
     meta: Meta,
@@ -34,13 +34,13 @@ impl Asking {
     ghost use Rattle.zoom_clock.specs.Clocks.{IsLeastWake, due_count};
     ghost use Rattle.zoom_clock.specs.declared.signal.Signal.TheVariants as signals;
     ghost use Rattle.zoom_asking.specs.Inquiries.{Reported, Passed, GivenUp, Came, Noted, signal_of, inquiry};
-    ghost use Rattle.zoom_asking.specs.Steps.{IsStandingAt};
+    ghost use Rattle.zoom_asking.specs.Steps.{IsConditionAt};
     ghost use Rattle.zoom_asking.specs.Talks.{IsDriven, IsHeard, IsClosed};
     ghost use Rattle.zoom_asking.specs.Hosts.{AfterChange};
     ghost use Rattle.zoom_asking.specs.Askings.{AskingAfter, IsEntered, KeepsHistories, IsOneTold, IsOneFed, HasTurned, IsTalkedOn, IsSendPut, HasBegun, HasBegunAt, IsWakeAt, IsOverAt, unsent_at};
 
-    /// Begins to ask, from `now` on: a question and a host for each connection, or `None` if it is not chosen. `total` is
-    /// how long all may take, if that has a limit. Returns `AllocError` if no memory is found.
+    /// Begins to ask, from `now` on: a question and a host for each connection, or `None` if it is not chosen. `total`
+    /// is how long all may take, if that has a limit. Returns `AllocError` if no memory is found.
     pub fn new(
         alloc: Global,
         questions: Seq<Question>,
@@ -290,10 +290,10 @@ impl Asking {
     }
 
     /// Octets came on a connection that is talked with. Returns how it stands.
-    fn hear(&mut self, c: u32, piece: &[u8], lost: bool) -> Result<Standing, AllocError>
+    fn hear(&mut self, c: u32, piece: &[u8], lost: bool) -> Result<Condition, AllocError>
         requires { c < length self.old.meta.pool.connections }
         ensures talked { OnOk result (IsTalkedOn c (IsHeard piece.now) lost self.old self.new) }
-        ensures standing { IfOk result (λ standing. IsStandingAt c self.new.meta standing) }
+        ensures condition { IfOk result (λ condition. IsConditionAt c self.new.meta condition) }
         ensures size { length self.new.meta.pool.connections ≡ length self.old.meta.pool.connections }
     {
         let unsent = &mut self.unsent[c as usize];
@@ -301,7 +301,7 @@ impl Asking {
         hear(&mut self.meta, c, piece, unsent)?;
         let waits = unsent.len();
         self.send_if(c, is_to_send(lost, waited, waits))?;
-        Ok(standing(&self.meta, c))
+        Ok(condition(&self.meta, c))
     }
 
     /// Octets of a connection are to be sent, if any wait.
@@ -326,8 +326,8 @@ impl Asking {
         match lost_of(&self.clock.course(c).stage) {
             None => Ok(()),
             Some(lost) => {
-                let standing = self.hear(c, piece, lost)?;
-                self.tell(c, at, Signal::Octets(standing))?;
+                let condition = self.hear(c, piece, lost)?;
+                self.tell(c, at, Signal::Octets(condition))?;
                 Ok(())
             }
         }

@@ -1,10 +1,10 @@
 //! Talking on one connection: what is due is handed out, and messages are taken.
 ghost use Rattle.std.specs.Prelude.{◌≡◌, ◌<◌, ℕ, List, length, IfOk, OnOk};
-ghost use Rattle.zoom_asking.specs.Steps.{IsExtended, IsReceived, IsStandingAt, receipt_of};
-ghost use Rattle.zoom_asking.specs.Talks.{IsDriven, AreTaken, IsHeard, IsClosed, standing_in};
+ghost use Rattle.zoom_asking.specs.Steps.{IsExtended, IsReceived, IsConditionAt, receipt_of};
+ghost use Rattle.zoom_asking.specs.Talks.{IsDriven, AreTaken, IsHeard, IsClosed, condition_in};
 
 use std::alloc::AllocError;
-use zoom_clock::{Ending, Standing};
+use zoom_clock::{Condition, Ending};
 use zoom_pool::laws::one_transcript;
 use zoom_pool::{Meta, Reason, State, Step, TakeError};
 
@@ -90,22 +90,22 @@ pub(crate) fn hear(
 }
 
 /// How a connection stands.
-pub(crate) fn standing(meta: &Meta, c: u32) -> Standing
+pub(crate) fn condition(meta: &Meta, c: u32) -> Condition
     requires { c < length meta.now.pool.connections }
-    ensures { IsStandingAt c meta.now result }
+    ensures { IsConditionAt c meta.now result }
 {
     one_transcript();
-    standing_of(meta.state(c))
+    condition_of(meta.state(c))
 }
 
 /// How a connection in this state stands.
-fn standing_of(state: State) -> Standing
-    ensures { result ≡ standing_in state }
+fn condition_of(state: State) -> Condition
+    ensures { result ≡ condition_in state }
 {
     match state {
-        State::Closed | State::Failed(_) => Standing::Finished,
-        State::Closing => Standing::Leaving,
-        _ => Standing::Going,
+        State::Closed | State::Failed(_) => Condition::Finished,
+        State::Closing => Condition::Leaving,
+        _ => Condition::Going,
     }
 }
 

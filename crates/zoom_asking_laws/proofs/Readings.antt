@@ -22,7 +22,7 @@ use Rattle.zoom_clock.specs.declared.stage.Stage.TheVariants.{NotChosen, Connect
 use Rattle.zoom_asking.specs.Changes.{change_between}
 use Rattle.zoom_asking.specs.Inquiries.{Told, Came, Noted}
 use Rattle.zoom_asking.specs.Talks.{IsDriven, AreTaken, none, last, one, closing}
-use Rattle.zoom_asking.specs.Hosts.{HostState, AfterChange, IsNoted, IsFed, IsTold}
+use Rattle.zoom_asking.specs.Hosts.{AskedConnection, AfterChange, IsNoted, IsFed, IsTold}
 use Rattle.zoom_asking_laws.proofs.TakeSteps.{take_sent}
 
 -- ---- one event
@@ -117,21 +117,21 @@ module _ (s : MetaSettings) (question : Question) where
   read_changed (Talking t) (Talking u) old new same r = subst AreRead same r
   read_changed (Talking t) (Over ending) old new is r = read_closed ending old (subst AreRead is r)
 
-  pub read_noted : (at : ℕ) (what : Signal) (events : List Event) (old new : HostState)
+  pub read_noted : (at : ℕ) (what : Signal) (events : List Event) (old new : AskedConnection)
       → IsNoted s question at what events old new → AreRead new.events → AreRead events
   read_noted at what events old new n r =
       read_changed old.course.stage new.course.stage events new.events n.changed r
 
-  read_fed : (at : ℕ) (piece : List ℕ) (stage : Stage) (old new : HostState)
+  read_fed : (at : ℕ) (piece : List ℕ) (stage : Stage) (old new : AskedConnection)
       → IsFed s question at piece stage old new → AreRead new.events → AreRead old.events
   read_fed at piece (Talking t) old new h r =
       read_before (Fed piece) old.events (read_taken (Fed piece ∷ old.events) h.heard h.hears
       (read_noted at _ h.heard old new h.noted r))
-  read_fed at piece NotChosen old new same r = subst (λ (z : HostState). AreRead z.events) same r
-  read_fed at piece (Connecting a) old new same r = subst (λ (z : HostState). AreRead z.events) same r
-  read_fed at piece (Over ending) old new same r = subst (λ (z : HostState). AreRead z.events) same r
+  read_fed at piece NotChosen old new same r = subst (λ (z : AskedConnection). AreRead z.events) same r
+  read_fed at piece (Connecting a) old new same r = subst (λ (z : AskedConnection). AreRead z.events) same r
+  read_fed at piece (Over ending) old new same r = subst (λ (z : AskedConnection). AreRead z.events) same r
 
-  pub read_told : (at : ℕ) (told : Told) (old new : HostState) → IsTold s question at told old new
+  pub read_told : (at : ℕ) (told : Told) (old new : AskedConnection) → IsTold s question at told old new
       → AreRead new.events → AreRead old.events
   read_told at (Came piece) old new is r = read_fed at piece old.course.stage old new is r
   read_told at (Noted what) old new is r = read_noted at what old.events old new is r

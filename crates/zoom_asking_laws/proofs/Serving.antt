@@ -21,7 +21,7 @@ use Rattle.zoom_clock.specs.declared.signal.Signal.TheVariants as signals
 use Rattle.zoom_asking.specs.declared.asking.Asking.{Asking}
 use Rattle.zoom_asking.specs.declared.inquiry.AskedHost.{AskedHost}
 use Rattle.zoom_asking.specs.Inquiries.{Inquiry, Entry, Event, Came, Noted, addresses_of}
-use Rattle.zoom_asking.specs.Hosts.{HostState, IsFed, first_events}
+use Rattle.zoom_asking.specs.Hosts.{AskedConnection, IsFed, first_events}
 use Rattle.zoom_asking.specs.Askings.{AskingAfter}
 use Rattle.zoom_asking_laws.specs.Served.{IsServed, begins, feeds, releases, hands, comes, tells, AnsweredLaw, DeliveredLaw, ServedLaws}
 use Rattle.zoom_asking_laws.proofs.Readings.{AreReadIn, read_noted, read_told}
@@ -79,7 +79,7 @@ way_to events xs past to rest sends gave is =
 -- ---- the start
 
 module _ (laws : Laws) (i : Inquiry) (host : Option AskedHost) (question : Question) (holdings : Holdings) where
-  abbrev FitsNow : List HostEvent → ServingEnd → HostState → Type 0
+  abbrev FitsNow : List HostEvent → ServingEnd → AskedConnection → Type 0
   FitsNow xs end h = Fits i.settings question holdings xs end h
 
   quiet_first : (end : ServingEnd) → ServingEndAfter holdings [] end → IsQuiet i.settings question holdings [] end []
@@ -102,7 +102,7 @@ module _ (laws : Laws) (i : Inquiry) (host : Option AskedHost) (question : Quest
   -- ---- octets came
 
   came_fits : (xs : List HostEvent) (end : ServingEnd) (at : ℕ) (piece rest : List ℕ) (stage : Stage)
-      (old new : HostState) → old.course.stage ≡ stage → IsFed i.settings question at piece stage old new
+      (old new : AskedConnection) → old.course.stage ≡ stage → IsFed i.settings question at piece stage old new
       → AreReadIn (settings_of i.settings) new.events → handed_out xs ≡ fed old.events ++ piece ++ rest
       → FitsNow xs end old → FitsNow xs end new
   came_fits xs end at piece rest NotChosen old new is same reads came fits = subst (FitsNow xs end) (sym same) fits
@@ -112,13 +112,13 @@ module _ (laws : Laws) (i : Inquiry) (host : Option AskedHost) (question : Quest
       subst (FitsNow xs end) (sym same) fits
   came_fits xs end at piece rest (Talking t) old new is had reads came fits =
       heard_fits laws i.settings question holdings xs end at piece rest t old new is had
-      (read_noted i.settings question at (signals.Octets had.standing) had.heard old new had.noted reads) came
+      (read_noted i.settings question at (signals.Octets had.condition) had.heard old new had.noted reads) came
       (subst (λ z. FitsStage i.settings question holdings xs end z old.events) is fits)
 
   -- ---- all
 
   -- What is known of a connection that exchanges octets with a target alone, if what it sent is read back.
-  pub served_fits : (es : List Event) (h : HostState) (xs : List HostEvent) (end : ServingEnd)
+  pub served_fits : (es : List Event) (h : AskedConnection) (xs : List HostEvent) (end : ServingEnd)
       → IsServed i host question holdings es h xs end → AreReadIn (settings_of i.settings) h.events → FitsNow xs end h
   served_fits es h xs end (begins g e first after) reads =
       subst (FitsNow [] end) (sym first) (stage_first end (addresses_of host) i.start after)
@@ -156,7 +156,7 @@ sent_read questions s h meta c q after at =
 
 -- the exchange of a connection of an asking
 asking_fits : Laws → (i : Inquiry) (history : List Entry) (asking : Asking) (c : ℕ) (question : Question)
-    (host : Option AskedHost) (es : List Event) (h : HostState) (xs : List HostEvent) (end : ServingEnd)
+    (host : Option AskedHost) (es : List Event) (h : AskedConnection) (xs : List HostEvent) (end : ServingEnd)
     (holdings : Holdings) (after : AskingAfter i history asking) → slice_get i.questions c ≡ Some question
     → slice_get after.hosts c ≡ Some h → IsServed i host question holdings es h xs end
     → Fits i.settings question holdings xs end h

@@ -14,8 +14,8 @@ use Rattle.zoom_clock.specs.declared.signal.Ending.{Ending}
 use Rattle.zoom_clock.specs.declared.signal.Ending.TheVariants as endings
 use Rattle.zoom_clock.specs.declared.signal.Signal.{Signal}
 use Rattle.zoom_clock.specs.declared.signal.Signal.TheVariants as signals
-use Rattle.zoom_clock.specs.declared.signal.Standing.{Standing}
-use Rattle.zoom_clock.specs.declared.signal.Standing.TheVariants as standings
+use Rattle.zoom_clock.specs.declared.signal.Condition.{Condition}
+use Rattle.zoom_clock.specs.declared.signal.Condition.TheVariants as conditions
 use Rattle.zoom_clock.specs.declared.stage.Stage.{Stage}
 use Rattle.zoom_clock.specs.declared.stage.Stage.TheVariants.{NotChosen, Connecting, Talking, Over}
 use Rattle.zoom_clock.specs.declared.attempts.Attempts.{Attempts}
@@ -25,15 +25,15 @@ use Rattle.zoom_clock.specs.Courses.{event, ruling_of, step, time_of}
 use Rattle.zoom_clock.specs.Stages.{ruling, hearing}
 use Rattle.zoom_asking.specs.Changes.{change_between}
 use Rattle.zoom_asking.specs.Inquiries.{Noted}
-use Rattle.zoom_asking.specs.Talks.{IsDriven, standing_in}
-use Rattle.zoom_asking.specs.Hosts.{HostState, AfterChange, IsNoted, HasHeard}
+use Rattle.zoom_asking.specs.Talks.{IsDriven, condition_in}
+use Rattle.zoom_asking.specs.Hosts.{AskedConnection, AfterChange, IsNoted, HasHeard}
 use Rattle.zoom_asking.specs.Laws.{IsReported}
 use Rattle.zoom_asking.proofs.Rulings.{FromConnecting, connecting_leads, FromTalking, talking_leads, stage_next}
 use Rattle.zoom_asking_laws.proofs.Readings.{AreReadIn}
 use Rattle.zoom_asking_laws.proofs.Exchanges.{IsUnderway, IsExchanged, Laws, opened, heard}
 
 -- whether a connection that stands so is over
-going_on : (state : State) → standings.Going ≡ standing_in state → is_stopped state ≡ false
+going_on : (state : State) → conditions.Going ≡ condition_in state → is_stopped state ≡ false
 going_on states.Fresh is = refl
 going_on states.Initialising is = refl
 going_on (states.Ready v3 concurrent named) is = refl
@@ -41,7 +41,7 @@ going_on states.Closing is = refl
 going_on states.Closed is = absurd cc
 going_on (states.Failed reason) is = absurd cc
 
-leaving_on : (state : State) → standings.Leaving ≡ standing_in state → is_stopped state ≡ false
+leaving_on : (state : State) → conditions.Leaving ≡ condition_in state → is_stopped state ≡ false
 leaving_on states.Fresh is = refl
 leaving_on states.Initialising is = refl
 leaving_on (states.Ready v3 concurrent named) is = refl
@@ -49,7 +49,7 @@ leaving_on states.Closing is = refl
 leaving_on states.Closed is = absurd cc
 leaving_on (states.Failed reason) is = absurd cc
 
-finished_over : (state : State) → standings.Finished ≡ standing_in state → is_stopped state ≡ true
+finished_over : (state : State) → conditions.Finished ≡ condition_in state → is_stopped state ≡ true
 finished_over states.Fresh is = absurd cc
 finished_over states.Initialising is = absurd cc
 finished_over (states.Ready v3 concurrent named) is = absurd cc
@@ -58,18 +58,18 @@ finished_over states.Closed is = refl
 finished_over (states.Failed reason) is = refl
 
 -- octets of a connection that is talked with always tell the clock something
-heard_course : (at : ℕ) (standing : Standing) (t : Talk) (p : Course) → p.stage ≡ Talking t
-    → (step (event at (signals.Octets standing)) p).stage
-    ≡ (hearing (time_of (event at (signals.Octets standing)) p) standing t).stage
-heard_course at standing t p is = rw is refl
+heard_course : (at : ℕ) (condition : Condition) (t : Talk) (p : Course) → p.stage ≡ Talking t
+    → (step (event at (signals.Octets condition)) p).stage
+    ≡ (hearing (time_of (event at (signals.Octets condition)) p) condition t).stage
+heard_course at condition t p is = rw is refl
 
 -- octets are not noted by themselves
-no_octets : (what : Signal) (standing : Standing) → IsReported (Noted what) → what ≡ signals.Octets standing → ⊥
-no_octets what standing reported is = subst (λ z. IsReported (Noted z)) is reported
+no_octets : (what : Signal) (condition : Condition) → IsReported (Noted what) → what ≡ signals.Octets condition → ⊥
+no_octets what condition reported is = subst (λ z. IsReported (Noted z)) is reported
 
 -- the stage stays, or is that of the ruling
 next_stage : (s : MetaSettings) (question : Question) (at : ℕ) (what : Signal) (events : List pool.Event)
-    (old new : HostState) → IsNoted s question at what events old new
+    (old new : AskedConnection) → IsNoted s question at what events old new
     → (new.course.stage ≡ old.course.stage) ⊎ (new.course.stage ≡ (ruling_of (event at what) old.course).stage)
 next_stage s question at what events old new noted =
     subst (λ (z : Course). (z.stage ≡ old.course.stage) ⊎ (z.stage ≡ (ruling_of (event at what) old.course).stage))
@@ -98,7 +98,7 @@ module _ (s : MetaSettings) (question : Question) (holdings : Holdings) (xs : Li
   FitsStage (Talking t) events = IsAt false events
   FitsStage (Over ending) events = FitsEnd ending events
 
-  abbrev pub Fits : HostState → Type 0
+  abbrev pub Fits : AskedConnection → Type 0
   Fits h = FitsStage h.course.stage h.events
 
 module _ (laws : Laws) (s : MetaSettings) (question : Question) (holdings : Holdings) (xs : List HostEvent)
@@ -153,7 +153,7 @@ module _ (laws : Laws) (s : MetaSettings) (question : Question) (holdings : Hold
         talking t (Over endings.Turns) from brings fits = tt
         talking t (Over endings.InputEnded) from brings fits = tt
         talking t (Over endings.Finished) from brings fits =
-            absurd (no_octets what standings.Finished reported from)
+            absurd (no_octets what conditions.Finished reported from)
 
         pub ruled : (limits : Limits) (start now : ℕ) (wanted : Bool) (stage next : Stage)
             → (next ≡ stage) ⊎ (next ≡ (ruling limits start now wanted what stage).stage) → Brings stage next
@@ -168,7 +168,7 @@ module _ (laws : Laws) (s : MetaSettings) (question : Question) (holdings : Hold
         ruled limits start now wanted (Over ending) next (inr is) brings fits =
             still (Over ending) next is brings fits
 
-    pub noted_fits : (at : ℕ) (what : Signal) (old new : HostState) → IsReported (Noted what)
+    pub noted_fits : (at : ℕ) (what : Signal) (old new : AskedConnection) → IsReported (Noted what)
         → IsNoted s question at what old.events old new → AreReadIn (settings_of s) new.events
         → Fits s question holdings xs end old → Fits s question holdings xs end new
     noted_fits at what old new reported noted reads fits =
@@ -182,46 +182,46 @@ module _ (laws : Laws) (s : MetaSettings) (question : Question) (holdings : Hold
       abbrev BringsNow : Stage → Type 0
       BringsNow next = AfterChange (change_between (Talking t) next) s question events new
 
-      going : (standing : Standing) (next : Stage) → (standing ≡ standings.Finished → ⊥)
-          → FromTalking (signals.Octets standing) next → BringsNow next → IsAt s question holdings xs end false events
+      going : (condition : Condition) (next : Stage) → (condition ≡ conditions.Finished → ⊥)
+          → FromTalking (signals.Octets condition) next → BringsNow next → IsAt s question holdings xs end false events
           → FitsAt next new
-      going standing NotChosen other from brings at = absurd from
-      going standing (Connecting a) other from brings at = absurd from
-      going standing (Talking u) other from brings at = subst (IsAt s question holdings xs end false) (sym brings) at
-      going standing (Over endings.Connect) other from brings at = tt
-      going standing (Over endings.Read) other from brings at = tt
-      going standing (Over endings.Write) other from brings at = tt
-      going standing (Over endings.Turns) other from brings at = tt
-      going standing (Over endings.InputEnded) other from brings at = tt
-      going standing (Over endings.Finished) other from brings at =
-          absurd (other (let e : standing ≡ standings.Finished = cc in e))
+      going condition NotChosen other from brings at = absurd from
+      going condition (Connecting a) other from brings at = absurd from
+      going condition (Talking u) other from brings at = subst (IsAt s question holdings xs end false) (sym brings) at
+      going condition (Over endings.Connect) other from brings at = tt
+      going condition (Over endings.Read) other from brings at = tt
+      going condition (Over endings.Write) other from brings at = tt
+      going condition (Over endings.Turns) other from brings at = tt
+      going condition (Over endings.InputEnded) other from brings at = tt
+      going condition (Over endings.Finished) other from brings at =
+          absurd (other (let e : condition ≡ conditions.Finished = cc in e))
 
-      after_octets : (now : ℕ) (standing : Standing) (next : Stage) (p : Transcript)
-          → IsExchanged s question holdings xs end events p → standing ≡ standing_in (state_at p)
-          → next ≡ (hearing now standing t).stage → BringsNow next → FitsAt next new
-      after_octets now standings.Finished next p e stands is brings =
+      after_octets : (now : ℕ) (condition : Condition) (next : Stage) (p : Transcript)
+          → IsExchanged s question holdings xs end events p → condition ≡ condition_in (state_at p)
+          → next ≡ (hearing now condition t).stage → BringsNow next → FitsAt next new
+      after_octets now conditions.Finished next p e stands is brings =
           let brought : BringsNow (Over endings.Finished) = subst BringsNow is brings in
           subst (λ z. FitsAt z new) (sym is) (subst (IsAt s question holdings xs end true) (sym brought)
           (p, e, finished_over (state_at p) stands))
-      after_octets now standings.Going next p e stands is brings =
-          going standings.Going next (λ f. absurd cc)
-          (subst (FromTalking (signals.Octets standings.Going)) (sym is)
-          (talking_leads now true (signals.Octets standings.Going) t)) brings (p, e, going_on (state_at p) stands)
-      after_octets now standings.Leaving next p e stands is brings =
-          going standings.Leaving next (λ f. absurd cc)
-          (subst (FromTalking (signals.Octets standings.Leaving)) (sym is)
-          (talking_leads now true (signals.Octets standings.Leaving) t)) brings (p, e, leaving_on (state_at p) stands)
+      after_octets now conditions.Going next p e stands is brings =
+          going conditions.Going next (λ f. absurd cc)
+          (subst (FromTalking (signals.Octets conditions.Going)) (sym is)
+          (talking_leads now true (signals.Octets conditions.Going) t)) brings (p, e, going_on (state_at p) stands)
+      after_octets now conditions.Leaving next p e stands is brings =
+          going conditions.Leaving next (λ f. absurd cc)
+          (subst (FromTalking (signals.Octets conditions.Leaving)) (sym is)
+          (talking_leads now true (signals.Octets conditions.Leaving) t)) brings (p, e, leaving_on (state_at p) stands)
 
-    pub heard_fits : (at : ℕ) (piece rest : List ℕ) (t : Talk) (old new : HostState) → old.course.stage ≡ Talking t
+    pub heard_fits : (at : ℕ) (piece rest : List ℕ) (t : Talk) (old new : AskedConnection) → old.course.stage ≡ Talking t
         → (had : HasHeard s question at piece old new) → AreReadIn (settings_of s) had.heard
         → handed_out xs ≡ fed old.events ++ piece ++ rest → IsAt s question holdings xs end false old.events
         → Fits s question holdings xs end new
     heard_fits at piece rest t old new is had reads came was =
         let e = heard laws s question holdings xs end old.events had.heard was.0 piece rest had.hears reads came was.1
         was.2 in
-        let what : Signal = signals.Octets had.standing in
-        after_octets t had.heard new.events (time_of (event at what) old.course) had.standing new.course.stage e.0 e.1
+        let what : Signal = signals.Octets had.condition in
+        after_octets t had.heard new.events (time_of (event at what) old.course) had.condition new.course.stage e.0 e.1
         (had.stands e.0 e.1.under.sound.transcript)
-        (ap (λ (z : Course). z.stage) had.noted.course ∙ heard_course at had.standing t old.course is)
+        (ap (λ (z : Course). z.stage) had.noted.course ∙ heard_course at had.condition t old.course is)
         (subst (λ z. AfterChange (change_between z new.course.stage) s question had.heard new.events) is
         had.noted.changed)

@@ -14,7 +14,7 @@ use Rattle.zoom_clock.specs.declared.talk.Talk.{Talk}
 use Rattle.zoom_asking.specs.declared.asking.Asking.{Asking}
 use Rattle.zoom_asking.specs.declared.inquiry.AskedHost.{AskedHost}
 use Rattle.zoom_asking.specs.Inquiries.{Inquiry, Entry, Event, Came, Noted}
-use Rattle.zoom_asking.specs.Hosts.{HostState, HostAfter, IsTold}
+use Rattle.zoom_asking.specs.Hosts.{AskedConnection, AskedAfter, IsTold}
 use Rattle.zoom_asking.specs.Askings.{AskingAfter}
 use Rattle.zoom_asking.specs.Laws.{IsReported}
 use Rattle.zoom_laws.specs.Catalogue.{CanAsk, HasFittingRecords, catalogue}
@@ -24,24 +24,25 @@ use Rattle.zoom_laws.specs.Exchange.{fed_to}
 -- fed what the connection had handed out, and the octets that came were those that the target had handed out, in
 -- pieces of any size. Its replies were released in any order.
 pub data IsServed (i : Inquiry) (host : Option AskedHost) (question : Question) (holdings : Holdings)
-    : List Event → HostState → List HostEvent → ServingEnd → Type 0 where
-  begins : (h : HostState) (end : ServingEnd) → HostAfter i host question [] h → ServingEndAfter holdings [] end
+    : List Event → AskedConnection → List HostEvent → ServingEnd → Type 0 where
+  begins : (h : AskedConnection) (end : ServingEnd) → AskedAfter i host question [] h → ServingEndAfter holdings [] end
       → IsServed i host question holdings [] h [] end
-  feeds : (es : List Event) (h : HostState) (xs : List HostEvent) (end later : ServingEnd) (piece rest : List ℕ)
+  feeds : (es : List Event) (h : AskedConnection) (xs : List HostEvent) (end later : ServingEnd) (piece rest : List ℕ)
       → IsServed i host question holdings es h xs end → given h.events ≡ fed_to xs ++ piece ++ rest
       → ServingEndAfter holdings (HostFed piece ∷ xs) later
       → IsServed i host question holdings es h (HostFed piece ∷ xs) later
-  releases : (es : List Event) (h : HostState) (xs : List HostEvent) (end later : ServingEnd) (k : ℕ)
+  releases : (es : List Event) (h : AskedConnection) (xs : List HostEvent) (end later : ServingEnd) (k : ℕ)
       → IsServed i host question holdings es h xs end → ServingEndAfter holdings (Released k ∷ xs) later
       → IsServed i host question holdings es h (Released k ∷ xs) later
-  hands : (es : List Event) (h : HostState) (xs : List HostEvent) (end later : ServingEnd)
+  hands : (es : List Event) (h : AskedConnection) (xs : List HostEvent) (end later : ServingEnd)
       → IsServed i host question holdings es h xs end → ServingEndAfter holdings (HostHandedOut end.waiting ∷ xs) later
       → IsServed i host question holdings es h (HostHandedOut end.waiting ∷ xs) later
-  comes : (es : List Event) (h g : HostState) (xs : List HostEvent) (end : ServingEnd) (at : ℕ) (piece rest : List ℕ)
+  comes : (es : List Event) (h g : AskedConnection) (xs : List HostEvent) (end : ServingEnd) (at : ℕ)
+      (piece rest : List ℕ)
       → IsServed i host question holdings es h xs end → handed_out xs ≡ fed h.events ++ piece ++ rest
       → IsTold i.settings question at (Came piece) h g
       → IsServed i host question holdings (record { at = at; told = Came piece } ∷ es) g xs end
-  tells : (es : List Event) (h g : HostState) (xs : List HostEvent) (end : ServingEnd) (at : ℕ) (what : Signal)
+  tells : (es : List Event) (h g : AskedConnection) (xs : List HostEvent) (end : ServingEnd) (at : ℕ) (what : Signal)
       → IsServed i host question holdings es h xs end → IsReported (Noted what)
       → IsTold i.settings question at (Noted what) h g
       → IsServed i host question holdings (record { at = at; told = Noted what } ∷ es) g xs end
@@ -50,7 +51,8 @@ pub data IsServed (i : Inquiry) (host : Option AskedHost) (question : Question) 
 abbrev pub AnsweredLaw : Type 0
 AnsweredLaw =
     (i : Inquiry) (history : List Entry) (asking : Asking) (c : ℕ) (question : Question) (host : Option AskedHost)
-    (es : List Event) (h : HostState) (xs : List HostEvent) (end : ServingEnd) (holdings : Holdings) (p : Transcript)
+    (es : List Event) (h : AskedConnection) (xs : List HostEvent) (end : ServingEnd) (holdings : Holdings)
+    (p : Transcript)
     (after : AskingAfter i history asking)
     → slice_get i.questions c ≡ Some question → slice_get after.hosts c ≡ Some h
     → IsServed i host question holdings es h xs end → h.course.stage ≡ Over endings.Finished
@@ -62,7 +64,7 @@ AnsweredLaw =
 abbrev pub DeliveredLaw : Type 0
 DeliveredLaw =
     (i : Inquiry) (history : List Entry) (asking : Asking) (c : ℕ) (question : Question) (host : Option AskedHost)
-    (es : List Event) (h : HostState) (xs : List HostEvent) (end : ServingEnd) (holdings : Holdings) (t : Talk)
+    (es : List Event) (h : AskedConnection) (xs : List HostEvent) (end : ServingEnd) (holdings : Holdings) (t : Talk)
     (after : AskingAfter i history asking)
     → slice_get i.questions c ≡ Some question → slice_get after.hosts c ≡ Some h
     → IsServed i host question holdings es h xs end → given h.events ≡ fed_to xs → handed_out xs ≡ fed h.events

@@ -9,12 +9,12 @@ use Rattle.zoom_clock.specs.declared.signal.Ending.{Ending}
 use Rattle.zoom_clock.specs.declared.signal.Ending.TheVariants as endings
 use Rattle.zoom_clock.specs.declared.signal.Signal.{Signal}
 use Rattle.zoom_clock.specs.declared.signal.Signal.TheVariants as signals
-use Rattle.zoom_clock.specs.declared.signal.Standing.{Standing}
-use Rattle.zoom_clock.specs.declared.signal.Standing.TheVariants as standings
+use Rattle.zoom_clock.specs.declared.signal.Condition.{Condition}
+use Rattle.zoom_clock.specs.declared.signal.Condition.TheVariants as conditions
 use Rattle.zoom_clock.specs.declared.stage.Stage.{Stage}
 use Rattle.zoom_clock.specs.declared.stage.Stage.TheVariants.{Talking}
 use Rattle.zoom_clock.specs.declared.talk.Talk.{Talk}
-use Rattle.zoom_clock.specs.declared.talk.TheConstants.{FAREWELL}
+use Rattle.zoom_clock.specs.declared.talk.TheConstants.{CLOSE_PATIENCE}
 use Rattle.zoom_clock.specs.Times.{never, total_end}
 use Rattle.zoom_clock.specs.Stages.{Ruling, staying, talk_end, first_ruling, ending_talk, verdict, with_piece, is_used_up, is_leaving, less_one, going_on, losing, talking_ruling}
 use Rattle.zoom_clock.specs.Courses.{Event, event, is_tick}
@@ -28,7 +28,7 @@ use Rattle.zoom_clock.proofs.States.{state}
 -- ---- talking
 
 verdict_told : (limits : Limits) (n start : ℕ) (es : List Event) (t : Talk) (ending : Ending)
-    → (t.leaving ≡ true → WasTold (signals.Octets standings.Leaving) es)
+    → (t.leaving ≡ true → WasTold (signals.Octets conditions.Leaving) es)
     → (t.lost ≡ true → WasTold signals.Unwritable es)
     → (t.leaving ≡ false → IsGivenUp limits n start es ending) → IsGivenUp limits n start es (verdict t ending)
 verdict_told limits n start es t ending leaving lost other =
@@ -59,37 +59,37 @@ ticked_told limits n start at now es w t i late h =
       refl,
       t.heard,
       h.silent,
-      silent_for w t.leaving t.heard limits.patience (min limits.patience FAREWELL) (total_end limits.total start) at
+      silent_for w t.leaving t.heard limits.patience (min limits.patience CLOSE_PATIENCE) (total_end limits.total start) at
           (max (latest_in start es) at) stays late (omega arith) top,
     )))
 
-left_less : (o left : Option ℕ) (at : ℕ) (standing : Standing) (es : List Event) → IsLeft o left es
-    → IsLeft o (less_one left) (event at (signals.Octets standing) ∷ es)
-left_less o None at standing es h = tt
-left_less None (Some left) at standing es h = h
-left_less (Some most) (Some left) at standing es h =
-    let c = pieces_next (event at (signals.Octets standing)) es in omega arith
+left_less : (o left : Option ℕ) (at : ℕ) (condition : Condition) (es : List Event) → IsLeft o left es
+    → IsLeft o (less_one left) (event at (signals.Octets condition) ∷ es)
+left_less o None at condition es h = tt
+left_less None (Some left) at condition es h = h
+left_less (Some most) (Some left) at condition es h =
+    let c = pieces_next (event at (signals.Octets condition)) es in omega arith
 
 used_up : (o left : Option ℕ) (es : List Event) → IsLeft o left es → is_used_up left ≡ true → HasUsedUp o es
 used_up o None es h u = cc
 used_up None (Some left) es h u = absurd h
 used_up (Some most) (Some left) es h u = let e = same_number left 0 u in omega arith
 
-leaving_is : (standing : Standing) → is_leaving standing ≡ true → standing ≡ standings.Leaving
-leaving_is standings.Going h = cc
-leaving_is standings.Leaving h = refl
-leaving_is standings.Finished h = cc
+leaving_is : (condition : Condition) → is_leaving condition ≡ true → condition ≡ conditions.Leaving
+leaving_is conditions.Going h = cc
+leaving_is conditions.Leaving h = refl
+leaving_is conditions.Finished h = cc
 
-piece_told : (limits : Limits) (n start at now : ℕ) (standing : Standing) (es : List Event) (t : Talk)
-    → IsNow start now (event at (signals.Octets standing)) es → IsTalkTold limits start es t
-    → IsTold limits n start (event at (signals.Octets standing) ∷ es) (going_on (with_piece now standing t)).stage
-piece_told limits n start at now standing es t i h =
-    let es' : List Event = event at (signals.Octets standing) ∷ es in
-    let u = with_piece now standing t in
+piece_told : (limits : Limits) (n start at now : ℕ) (condition : Condition) (es : List Event) (t : Talk)
+    → IsNow start now (event at (signals.Octets condition)) es → IsTalkTold limits start es t
+    → IsTold limits n start (event at (signals.Octets condition) ∷ es) (going_on (with_piece now condition t)).stage
+piece_told limits n start at now condition es t i h =
+    let es' : List Event = event at (signals.Octets condition) ∷ es in
+    let u = with_piece now condition t in
     let g : IsTalkTold limits start es' u = record {
       silent = inl (refl, i.after, i.before);
-      left = left_less limits.pieces t.left at standing es h.left;
-      leaving = λ l. inl (ap signals.Octets (leaving_is standing l));
+      left = left_less limits.pieces t.left at condition es h.left;
+      leaving = λ l. inl (ap signals.Octets (leaving_is condition l));
       lost = λ l. inr (h.lost l);
     } in
     at_either (λ (r : Ruling). IsTold limits n start es' r.stage)
@@ -131,11 +131,11 @@ pub talking_told : (limits : Limits) (n start at now : ℕ) (what : Signal) (es 
     → IsNow start now (event at what) es → (is_tick what ≡ true → talk_end limits start w t ≤ at)
     → IsTalkTold limits start es t
     → IsTold limits n start (event at what ∷ es) (talking_ruling now w what t).stage
-talking_told limits n start at now (signals.Octets standings.Going) es w t i late h =
-    piece_told limits n start at now standings.Going es t i h
-talking_told limits n start at now (signals.Octets standings.Leaving) es w t i late h =
-    piece_told limits n start at now standings.Leaving es t i h
-talking_told limits n start at now (signals.Octets standings.Finished) es w t i late h = inl refl
+talking_told limits n start at now (signals.Octets conditions.Going) es w t i late h =
+    piece_told limits n start at now conditions.Going es t i h
+talking_told limits n start at now (signals.Octets conditions.Leaving) es w t i late h =
+    piece_told limits n start at now conditions.Leaving es t i h
+talking_told limits n start at now (signals.Octets conditions.Finished) es w t i late h = inl refl
 talking_told limits n start at now signals.Taken es w t i late h =
     heard_told limits start at now signals.Taken es t refl i h
 talking_told limits n start at now signals.End es w t i late h =

@@ -1,5 +1,5 @@
 -- Places of a list, after one was changed or added.
-use Rattle.std.proofs.Common.{◌≡◌, ◌⊎◌, inl, inr, ℕ, zero, suc, ◌<◌, List, [], ◌∷◌, ◌++◌, length, Some, refl, ap, arith}
+use Rattle.std.proofs.Common.{◌≡◌, ◌⊎◌, inl, inr, ℕ, zero, suc, ◌<◌, List, [], ◌∷◌, ◌++◌, map, length, Some, refl, ap, arith}
 use Rattle.std.specs.Prelude.{slice_get, slice_set}
 
 module _ {A : Type 0} where
@@ -44,3 +44,20 @@ module _ {A : Type 0} where
   some_at [] c lt = absurd (omega arith)
   some_at (x ∷ xs) zero lt = (x, refl)
   some_at (x ∷ xs) (suc c) lt = some_at xs c (omega arith)
+
+  -- one place changed to what it is, and changed twice
+  pub set_same : (xs : List A) (i : ℕ) (v : A) → slice_get xs i ≡ Some v → slice_set xs i v ≡ xs
+  set_same [] i v get = refl
+  set_same (x ∷ xs) zero v get = let e : v ≡ x = cc in ap (λ y. y ∷ xs) e
+  set_same (x ∷ xs) (suc i) v get = ap (λ l. x ∷ l) (set_same xs i v get)
+
+  pub set_set : (xs : List A) (i : ℕ) (v w : A) → slice_set (slice_set xs i v) i w ≡ slice_set xs i w
+  set_set [] i v w = refl
+  set_set (x ∷ xs) zero v w = refl
+  set_set (x ∷ xs) (suc i) v w = ap (λ l. x ∷ l) (set_set xs i v w)
+
+-- a function of the elements, of a list with one changed
+pub map_set : {A B : Type 0} (f : A → B) (xs : List A) (i : ℕ) (v : A) → map f (slice_set xs i v) ≡ slice_set (map f xs) i (f v)
+map_set f [] i v = refl
+map_set f (x ∷ xs) zero v = refl
+map_set f (x ∷ xs) (suc i) v = ap (λ l. f x ∷ l) (map_set f xs i v)

@@ -11,7 +11,7 @@ use Rattle.zoom_clock.specs.declared.signal.Ending.{Ending}
 use Rattle.zoom_clock.specs.declared.signal.Ending.TheVariants as endings
 use Rattle.zoom_clock.specs.declared.signal.Signal.{Signal}
 use Rattle.zoom_clock.specs.declared.signal.Signal.TheVariants as signals
-use Rattle.zoom_clock.specs.declared.signal.Standing.TheVariants as standings
+use Rattle.zoom_clock.specs.declared.signal.Condition.TheVariants as conditions
 use Rattle.zoom_clock.specs.declared.stage.Stage.{Stage}
 use Rattle.zoom_clock.specs.declared.stage.Stage.TheVariants.{NotChosen, Connecting, Talking, Over}
 use Rattle.zoom_clock.specs.declared.talk.Talk.{Talk}
@@ -45,7 +45,7 @@ IsLeft (Some most) (Some left) es = most ≤ left + pieces_in es
 pub record IsTalkTold (limits : Limits) (start : ℕ) (es : List Event) (t : Talk) : Type 0 where
   pub silent : IsSilentSince start t.heard es
   pub left : IsLeft limits.pieces t.left es
-  pub leaving : t.leaving ≡ true → WasTold (signals.Octets standings.Leaving) es
+  pub leaving : t.leaving ≡ true → WasTold (signals.Octets conditions.Leaving) es
   pub lost : t.lost ≡ true → WasTold signals.Unwritable es
 
 abbrev pub IsGivenUp : Limits → ℕ → ℕ → List Event → Ending → Type 0
@@ -55,8 +55,8 @@ IsGivenUp limits n start es endings.Read =
 IsGivenUp limits n start es endings.Write = WasTold signals.Unwritable es
 IsGivenUp limits n start es endings.Turns = WasTold signals.GiveUp es ⊎ HasUsedUp limits.pieces es
 IsGivenUp limits n start es endings.InputEnded =
-    WasTold signals.End es ⊎ WasTold (signals.Octets standings.Leaving) es
-IsGivenUp limits n start es endings.Finished = WasTold (signals.Octets standings.Finished) es
+    WasTold signals.End es ⊎ WasTold (signals.Octets conditions.Leaving) es
+IsGivenUp limits n start es endings.Finished = WasTold (signals.Octets conditions.Finished) es
 
 abbrev pub IsTold : Limits → ℕ → ℕ → List Event → Stage → Type 0
 IsTold limits n start es NotChosen = Unit {0}
@@ -195,8 +195,8 @@ connecting_told limits n start at now signals.Tick es w a i h =
     (λ _.
     begun_told limits n start now (event at signals.Tick ∷ es) (next_of a.states) a
     (told_still n (event at signals.Tick) es a.states h))
-connecting_told limits n start at now (signals.Octets standing) es w a i h =
-    told_still n (event at (signals.Octets standing)) es a.states h
+connecting_told limits n start at now (signals.Octets condition) es w a i h =
+    told_still n (event at (signals.Octets condition)) es a.states h
 connecting_told limits n start at now signals.Taken es w a i h = told_still n (event at signals.Taken) es a.states h
 connecting_told limits n start at now signals.End es w a i h = told_still n (event at signals.End) es a.states h
 connecting_told limits n start at now signals.Unreadable es w a i h =

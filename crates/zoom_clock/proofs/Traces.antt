@@ -10,8 +10,8 @@ use Rattle.zoom_clock.specs.declared.signal.Ending.{Ending}
 use Rattle.zoom_clock.specs.declared.signal.Ending.TheVariants as endings
 use Rattle.zoom_clock.specs.declared.signal.Signal.{Signal}
 use Rattle.zoom_clock.specs.declared.signal.Signal.TheVariants as signals
-use Rattle.zoom_clock.specs.declared.signal.Standing.{Standing}
-use Rattle.zoom_clock.specs.declared.signal.Standing.TheVariants as standings
+use Rattle.zoom_clock.specs.declared.signal.Condition.{Condition}
+use Rattle.zoom_clock.specs.declared.signal.Condition.TheVariants as conditions
 use Rattle.zoom_clock.specs.declared.stage.Stage.{Stage}
 use Rattle.zoom_clock.specs.declared.stage.Stage.TheVariants.{Connecting, Talking, Over}
 use Rattle.zoom_clock.specs.declared.talk.Talk.{Talk}
@@ -149,8 +149,8 @@ module _ (limits : Limits) (n start : ℕ) (wanted : Bool) (P : List Event → L
       let b = i.before in
       r.late at es ts w a (inl (refl, omega arith)) h)
       (λ _. due_next r at now es ts w a (next_of a.states) refl h)
-  connecting_after r at now (signals.Octets standing) es ts w a i h =
-      passes r (event at (signals.Octets standing)) es ts w (Connecting a) h
+  connecting_after r at now (signals.Octets condition) es ts w a i h =
+      passes r (event at (signals.Octets condition)) es ts w (Connecting a) h
   connecting_after r at now signals.Taken es ts w a i h = passes r (event at signals.Taken) es ts w (Connecting a) h
   connecting_after r at now signals.End es ts w a i h = passes r (event at signals.End) es ts w (Connecting a) h
   connecting_after r at now signals.Unreadable es ts w a i h =
@@ -168,12 +168,12 @@ module _ (limits : Limits) (n start : ℕ) (wanted : Bool) (P : List Event → L
       → After (e ∷ es) ts w (ending_talk t (verdict t ending))
   ended_after r e es ts w t ending other h = r.ended e es ts w t (verdict t ending) (verdict_is_not t ending other) h
 
-  goes_on : IsTraced → (at now : ℕ) (standing : Standing) (es : List Event) (ts : List Task) (w : Bool) (t : Talk)
+  goes_on : IsTraced → (at now : ℕ) (condition : Condition) (es : List Event) (ts : List Task) (w : Bool) (t : Talk)
       → P es ts w (Talking t)
-      → After (event at (signals.Octets standing) ∷ es) ts w (going_on (with_piece now standing t))
-  goes_on r at now standing es ts w t h =
-      let e = event at (signals.Octets standing) in
-      let u = with_piece now standing t in
+      → After (event at (signals.Octets condition) ∷ es) ts w (going_on (with_piece now condition t))
+  goes_on r at now condition es ts w t h =
+      let e = event at (signals.Octets condition) in
+      let u = with_piece now condition t in
       at_either (After (e ∷ es) ts w)
       (is_used_up u.left) (ending_talk u (verdict u endings.Turns)) (staying (Talking u))
       (λ _. r.ended e es ts w t (verdict u endings.Turns) (verdict_is_not u endings.Turns (λ x. cc)) h)
@@ -181,10 +181,10 @@ module _ (limits : Limits) (n start : ℕ) (wanted : Bool) (P : List Event → L
 
   talking_after : IsTraced → (at now : ℕ) (what : Signal) (es : List Event) (ts : List Task) (w : Bool) (t : Talk)
       → P es ts w (Talking t) → After (event at what ∷ es) ts (wanted_after what w) (talking_ruling now w what t)
-  talking_after r at now (signals.Octets standings.Going) es ts w t h = goes_on r at now standings.Going es ts w t h
-  talking_after r at now (signals.Octets standings.Leaving) es ts w t h = goes_on r at now standings.Leaving es ts w t h
-  talking_after r at now (signals.Octets standings.Finished) es ts w t h =
-      r.ended (event at (signals.Octets standings.Finished)) es ts w t endings.Finished (λ x. cc) h
+  talking_after r at now (signals.Octets conditions.Going) es ts w t h = goes_on r at now conditions.Going es ts w t h
+  talking_after r at now (signals.Octets conditions.Leaving) es ts w t h = goes_on r at now conditions.Leaving es ts w t h
+  talking_after r at now (signals.Octets conditions.Finished) es ts w t h =
+      r.ended (event at (signals.Octets conditions.Finished)) es ts w t endings.Finished (λ x. cc) h
   talking_after r at now signals.Taken es ts w t h =
       stays (event at signals.Taken ∷ es) ts w (Talking (record t { heard = now }))
       (r.talked (event at signals.Taken) es ts w t (record t { heard = now }) refl h)

@@ -7,7 +7,7 @@ use Rattle.zoom_clock.specs.declared.limits.Limits.{Limits}
 use Rattle.zoom_clock.specs.declared.signal.Ending.TheVariants as endings
 use Rattle.zoom_clock.specs.declared.signal.Signal.{Signal}
 use Rattle.zoom_clock.specs.declared.signal.Signal.TheVariants as signals
-use Rattle.zoom_clock.specs.declared.signal.Standing.TheVariants as standings
+use Rattle.zoom_clock.specs.declared.signal.Condition.TheVariants as conditions
 use Rattle.zoom_clock.specs.declared.stage.Stage.{Stage}
 use Rattle.zoom_clock.specs.declared.stage.Stage.TheVariants.{NotChosen, Connecting, Talking, Over}
 use Rattle.zoom_clock.specs.declared.talk.Talk.{Talk}
@@ -26,9 +26,9 @@ going_begins_none u =
     (λ _. refl) (λ _. refl)
 
 talk_begins_none : (now : ℕ) (w : Bool) (what : Signal) (t : Talk) → BeginsNone (talking_ruling now w what t)
-talk_begins_none now w (signals.Octets standings.Going) t = going_begins_none (with_piece now standings.Going t)
-talk_begins_none now w (signals.Octets standings.Leaving) t = going_begins_none (with_piece now standings.Leaving t)
-talk_begins_none now w (signals.Octets standings.Finished) t = refl
+talk_begins_none now w (signals.Octets conditions.Going) t = going_begins_none (with_piece now conditions.Going t)
+talk_begins_none now w (signals.Octets conditions.Leaving) t = going_begins_none (with_piece now conditions.Leaving t)
+talk_begins_none now w (signals.Octets conditions.Finished) t = refl
 talk_begins_none now w signals.Taken t = refl
 talk_begins_none now w signals.End t = refl
 talk_begins_none now w signals.Unreadable t = refl

@@ -8,7 +8,7 @@ use Rattle.zoom_clock.specs.declared.signal.Signal.TheVariants as signals
 use Rattle.zoom_clock.specs.Actions.{all_for}
 use Rattle.zoom_clock.specs.Courses.{event, is_settled, step, tasks_of}
 use Rattle.zoom_clock.specs.Clocks.{IsOrderly, AfterNote, AfterTurns, SomeIsOpen, with_turn, with_next_turn, turn_tasks, next_turn_tasks, courses_after_turns, turns_tasks}
-use Rattle.zoom_clock.proofs.Places.{some_at}
+use Rattle.zoom_clock.proofs.Places.{some_at, set_same}
 use Rattle.zoom_clock.specs.Turns.{IsFirstOpen}
 
 -- the connections before this one are over
@@ -54,11 +54,6 @@ tasks_none at i [] over = refl
 tasks_none at i (q ∷ ps) over =
     ap (λ b. cond b (next_turn_tasks at (i + 1) ps) (turn_tasks at i q)) (over 0 q (omega arith) refl)
     ∙ tasks_none at (i + 1) ps (later_over (length ps) q ps over)
-
-set_same : (ps : List Course) (c : ℕ) (p : Course) → slice_get ps c ≡ Some p → slice_set ps c p ≡ ps
-set_same [] c p get = refl
-set_same (q ∷ ps) zero p get = let e : p ≡ q = cc in ap (λ x. x ∷ ps) e
-set_same (q ∷ ps) (suc c) p get = ap (λ l. q ∷ l) (set_same ps c p get)
 
 -- some connection is open, if the first that is stands before the end
 pub open_found : (ps : List Course) (from first : ℕ) → IsFirstOpen ps from first → first < length ps → SomeIsOpen ps

@@ -2,7 +2,7 @@
 use Rattle.std.proofs.Common.{◌≡◌, ◌⊎◌, inl, inr, ℕ, ◌+◌, ◌<◌, ◌≤◌, min, max, Bool, true, false, cond, not, ◌||◌, ◌&&◌, nat_le, is_some, [], ◌∷◌, Option, None, Some, refl, sym, ap, ap₂, subst, arith}
 use Rattle.zoom_clock.specs.declared.action.Task.TheVariants.{Connect}
 use Rattle.zoom_clock.specs.declared.attempts.Attempts.{Attempts}
-use Rattle.zoom_clock.specs.declared.attempts.TheConstants.{STAGGER}
+use Rattle.zoom_clock.specs.declared.attempts.TheConstants.{ATTEMPT_DELAY}
 use Rattle.zoom_clock.specs.declared.course.Course.{Course}
 use Rattle.zoom_clock.specs.declared.limits.Limits.{Limits}
 use Rattle.zoom_clock.specs.declared.signal.Ending.{Ending}
@@ -66,7 +66,7 @@ Moves r =
 
 -- the attempts are given up at one time, and the next is due at another
 begins : (now t end : ℕ) (o : Option ℕ) (a : Attempts) → now ≤ t → t < end → now < never
-    → min end (cond (is_some o) (a.since + STAGGER) never) ≤ now → Moves (beginning t o a)
+    → min end (cond (is_some o) (a.since + ATTEMPT_DELAY) never) ≤ now → Moves (beginning t o a)
 begins now t end None a before lt top le = absurd (omega arith)
 begins now t end (Some k) a before lt top le = inr (with_begun t k a, k, refl, refl)
 
@@ -100,13 +100,13 @@ IsAhead limits start w now (Over ending) = Unit {0}
 
 begun_ahead : (now t k : ℕ) (a : Attempts) → now ≤ t → now < never → now < next_at (with_begun t k a)
 begun_ahead now t k a before top =
-    at_either (λ x. now < x) (is_some (next_of (with_begun t k a).states)) (t + STAGGER) never
+    at_either (λ x. now < x) (is_some (next_of (with_begun t k a).states)) (t + ATTEMPT_DELAY) never
     (λ _. omega arith) (λ _. top)
 
 beginning_ahead : (limits : Limits) (start now t : ℕ) (w : Bool) (o : Option ℕ) (a : Attempts) → next_of a.states ≡ o
     → now ≤ t → t < connect_end limits start → IsAhead limits start w now (beginning t o a).stage
 beginning_ahead limits start now t w None a e before lt =
-    (omega arith, λ top. subst (λ o. now < cond (is_some o) (a.since + STAGGER) never) (sym e) top)
+    (omega arith, λ top. subst (λ o. now < cond (is_some o) (a.since + ATTEMPT_DELAY) never) (sym e) top)
 beginning_ahead limits start now t w (Some k) a e before lt = (omega arith, λ top. begun_ahead now t k a before top)
 
 ruling_ahead : (limits : Limits) (start now t : ℕ) (w : Bool) (s : Stage) → now ≤ t

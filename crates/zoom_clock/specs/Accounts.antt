@@ -30,7 +30,7 @@ WasLate start t (e ∷ es) = ((e.what ≡ signals.Tick) × (t ≤ latest_in star
 
 -- octets came or were taken: a sign of life
 abbrev pub is_sign : Signal → Bool
-is_sign (signals.Octets standing) = true
+is_sign (signals.Octets condition) = true
 is_sign signals.Taken = true
 is_sign _ = false
 
@@ -58,7 +58,7 @@ WasSilent limits start (e ∷ es) =
 
 -- how many pieces of octets came
 abbrev pub is_octets : Signal → Bool
-is_octets (signals.Octets standing) = true
+is_octets (signals.Octets condition) = true
 is_octets _ = false
 
 -- the attempt that had no socket

@@ -4,7 +4,7 @@ use Rattle.zoom_clock.specs.declared.action.Task.{Task}
 use Rattle.zoom_clock.specs.declared.action.Task.TheVariants.{Leave}
 use Rattle.zoom_clock.specs.declared.attempt.Attempt.{Attempt}
 use Rattle.zoom_clock.specs.declared.attempt.Attempt.TheVariants.{Ahead, Open, Waiting, Failed}
-use Rattle.zoom_clock.specs.declared.attempts.TheConstants.{STAGGER}
+use Rattle.zoom_clock.specs.declared.attempts.TheConstants.{ATTEMPT_DELAY}
 use Rattle.zoom_clock.specs.declared.attempts.Attempts.{Attempts}
 use Rattle.zoom_clock.specs.Times.{never}
 
@@ -49,9 +49,13 @@ open_from i (Failed ∷ xs) = open_from (i + 1) xs
 abbrev pub leaves : List Attempt → List Task
 leaves xs = map Leave (open_from 0 xs)
 
+-- the first of so many attempts is open, and the others were not begun
+abbrev pub one_open : ℕ → List Attempt
+one_open addresses = slice_set (replicate addresses Ahead) 0 Open
+
 -- the first attempt is begun
 abbrev pub first_attempts : ℕ → ℕ → Attempts
-first_attempts addresses start = record { last = 0; since = start; states = slice_set (replicate addresses Ahead) 0 Open }
+first_attempts addresses start = record { last = 0; since = start; states = one_open addresses }
 
 -- attempt k is begun at this time
 abbrev pub with_begun : ℕ → ℕ → Attempts → Attempts
@@ -67,4 +71,4 @@ with_waiting now k a = record a { since = now; states = slice_set a.states k Wai
 
 -- when the next attempt is due, if the last does not fail before
 abbrev pub next_at : Attempts → ℕ
-next_at a = if is_some (next_of a.states) then a.since + STAGGER else never
+next_at a = if is_some (next_of a.states) then a.since + ATTEMPT_DELAY else never

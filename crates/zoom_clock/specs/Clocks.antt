@@ -5,7 +5,7 @@ use Rattle.zoom_clock.specs.declared.clock.Clock.{Clock}
 use Rattle.zoom_clock.specs.declared.course.Course.{Course}
 use Rattle.zoom_clock.specs.declared.plan.Plan.{Plan}
 use Rattle.zoom_clock.specs.declared.signal.Signal.TheVariants as signals
-use Rattle.zoom_clock.specs.Actions.{all_for}
+use Rattle.zoom_clock.specs.Actions.{AreAdded, all_for}
 use Rattle.zoom_clock.specs.Stages.{first_ruling}
 use Rattle.zoom_clock.specs.Courses.{Event, event, is_settled, wake_of, step, tasks_of}
 use Rattle.zoom_clock.specs.Plans.{planned}
@@ -22,7 +22,7 @@ pub record AfterNote (c : ℕ) (e : Event) (old new : Clock) : Type 0 where
   pub course : (p : Course) → slice_get old.courses.items c ≡ Some p
       → new.courses.items ≡ slice_set old.courses.items c (step e p)
   pub tasks : (p : Course) → slice_get old.courses.items c ≡ Some p
-      → new.queue.items ≡ old.queue.items ++ all_for c (tasks_of e p)
+      → AreAdded c (tasks_of e p) old.queue.items new.queue.items
   pub passed : new.passed ≡ old.passed
   pub in_order : new.in_order ≡ old.in_order
   pub orderly : IsOrderly old → IsOrderly new

@@ -4,17 +4,17 @@ use Rattle.zoom_clock.specs.declared.action.Task.{Task}
 use Rattle.zoom_clock.specs.declared.action.Task.TheVariants.{Connect, Read}
 use Rattle.zoom_clock.specs.declared.attempt.Attempt.TheVariants.{Failed}
 use Rattle.zoom_clock.specs.declared.attempts.Attempts.{Attempts}
-use Rattle.zoom_clock.specs.declared.attempts.TheConstants.{STAGGER}
+use Rattle.zoom_clock.specs.declared.attempts.TheConstants.{ATTEMPT_DELAY}
 use Rattle.zoom_clock.specs.declared.course.Course.{Course}
 use Rattle.zoom_clock.specs.declared.limits.Limits.{Limits}
 use Rattle.zoom_clock.specs.declared.signal.Ending.{Ending}
 use Rattle.zoom_clock.specs.declared.signal.Ending.TheVariants as endings
 use Rattle.zoom_clock.specs.declared.signal.Signal.TheVariants as signals
-use Rattle.zoom_clock.specs.declared.signal.Standing.TheVariants as standings
+use Rattle.zoom_clock.specs.declared.signal.Condition.TheVariants as conditions
 use Rattle.zoom_clock.specs.declared.stage.Stage.{Stage}
 use Rattle.zoom_clock.specs.declared.stage.Stage.TheVariants.{Connecting, Talking, Over}
 use Rattle.zoom_clock.specs.declared.talk.Talk.{Talk}
-use Rattle.zoom_clock.specs.declared.talk.TheConstants.{FAREWELL}
+use Rattle.zoom_clock.specs.declared.talk.TheConstants.{CLOSE_PATIENCE}
 use Rattle.zoom_clock.specs.Times.{never}
 use Rattle.zoom_clock.specs.Attempts.{is_ahead, has_failed, next_at}
 use Rattle.zoom_clock.specs.Stages.{connect_end, talk_end}
@@ -51,10 +51,10 @@ pub record EarlyLaws : Type 0 where
   -- its input is over only if that was told, or if it had all it wanted
   pub input : (limits : Limits) (n start : ℕ) (wanted : Bool) (es : List Event)
       → stage_after limits n start wanted es ≡ Over endings.InputEnded
-      → WasTold signals.End es ⊎ WasTold (signals.Octets standings.Leaving) es
+      → WasTold signals.End es ⊎ WasTold (signals.Octets conditions.Leaving) es
   pub finished : (limits : Limits) (n start : ℕ) (wanted : Bool) (es : List Event)
       → stage_after limits n start wanted es ≡ Over endings.Finished
-      → WasTold (signals.Octets standings.Finished) es
+      → WasTold (signals.Octets conditions.Finished) es
   -- silence counts from the last sign of life
   pub silent : (limits : Limits) (n start : ℕ) (wanted : Bool) (es : List Event) (t : Talk)
       → stage_after limits n start wanted es ≡ Talking t → IsSilentSince start t.heard es
@@ -90,7 +90,7 @@ pub record WakeLaws : Type 0 where
   -- after a tick, the time to wake is later
   pub ahead : (p : Course) (now : ℕ) → now < never → now < wake_of (step (event now signals.Tick) p)
 
--- a connection that is over stays so, whatever is told, and nothing is to be done for it; so does one that is not chosen
+-- a connection that is over, or not chosen, stays so whatever is told, and nothing is to be done for it
 abbrev pub SettledLaw : Type 0
 SettledLaw = (p : Course) (e : Event) → is_settled p.stage ≡ true → (step e p ≡ p) × (tasks_of e p ≡ [])
 
@@ -98,6 +98,10 @@ SettledLaw = (p : Course) (e : Event) → is_settled p.stage ≡ true → (step 
 abbrev pub run_from : ℕ → ℕ → List ℕ
 run_from i zero = []
 run_from i (suc n) = i ∷ run_from (i + 1) n
+
+-- the connection has not connected, and is not over
+abbrev pub IsConnecting : Stage → Type 0
+IsConnecting stage = (a : Attempts) × (stage ≡ Connecting a)
 
 -- each address is tried
 pub record AttemptLaws : Type 0 where
@@ -115,9 +119,9 @@ pub record AttemptLaws : Type 0 where
       → ((k : ℕ) → k < n → Contains (begun_in (tasks_till limits n start wanted es)) k)
       ⊎ WasLate start (connect_end limits start) es
   -- an address is tried only while the connection is connecting
-  pub only : (p : Course) (e : Event) (k : ℕ) → Contains (begun_in (tasks_of e p)) k → (a : Attempts) × (p.stage ≡ Connecting a)
+  pub only : (p : Course) (e : Event) (k : ℕ) → Contains (begun_in (tasks_of e p)) k → IsConnecting p.stage
 
--- no socket is kept: each attempt of a connection that is over was left, or was told to have failed or to have no socket
+-- no socket is kept: each attempt of a connection that is over was left, or it failed, or it had no socket
 abbrev pub LeaveLaw : Type 0
 LeaveLaw =
     (limits : Limits) (n start k : ℕ) (wanted : Bool) (es : List Event)
@@ -134,4 +138,4 @@ TurnLaw =
 
 -- the times that the rules have of their own, in nanoseconds
 abbrev pub TimesLaw : Type 0
-TimesLaw = (STAGGER ≡ 250000000) × (FAREWELL ≡ 2000000000)
+TimesLaw = (ATTEMPT_DELAY ≡ 250000000) × (CLOSE_PATIENCE ≡ 2000000000)

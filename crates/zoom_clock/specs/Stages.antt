@@ -1,4 +1,5 @@
--- How far a connection is, and what the rules make of a signal.
+-- How far a connection is, and what the rules make of a signal: attempts (RFC 8305, 5), silence, and the end of the
+-- association, for which the other end has a time (Z39.50-2003, 3.2.11).
 use Rattle.std.specs.Prelude.{◌≡◌, ℕ, zero, suc, ◌+◌, ◌-◌, ◌==◌, min, nat_le, Bool, true, false, if◌then◌else◌, List, [], ◌∷◌, ◌++◌, Option, None, Some, slice_set}
 use Rattle.std.specs.List.{list_all}
 use Rattle.zoom_clock.specs.declared.action.Action.{Action}
@@ -11,13 +12,13 @@ use Rattle.zoom_clock.specs.declared.signal.Ending.{Ending}
 use Rattle.zoom_clock.specs.declared.signal.Ending.TheVariants as endings
 use Rattle.zoom_clock.specs.declared.signal.Signal.{Signal}
 use Rattle.zoom_clock.specs.declared.signal.Signal.TheVariants as signals
-use Rattle.zoom_clock.specs.declared.signal.Standing.{Standing}
-use Rattle.zoom_clock.specs.declared.signal.Standing.TheVariants as standings
+use Rattle.zoom_clock.specs.declared.signal.Condition.{Condition}
+use Rattle.zoom_clock.specs.declared.signal.Condition.TheVariants as conditions
 use Rattle.zoom_clock.specs.declared.stage.Stage.{Stage}
 use Rattle.zoom_clock.specs.declared.stage.Stage.TheVariants.{NotChosen, Connecting, Talking, Over}
 use Rattle.zoom_clock.specs.declared.talk.Talk.{Talk}
-use Rattle.zoom_clock.specs.declared.talk.TheConstants.{FAREWELL}
-use Rattle.zoom_clock.specs.Actions.{all_for}
+use Rattle.zoom_clock.specs.declared.talk.TheConstants.{CLOSE_PATIENCE}
+use Rattle.zoom_clock.specs.Actions.{AreAdded}
 use Rattle.zoom_clock.specs.Times.{never, total_end}
 use Rattle.zoom_clock.specs.Attempts.{is_open, has_failed, next_of, leaves, first_attempts, with_begun, with_failed, with_waiting, next_at}
 
@@ -33,7 +34,7 @@ staying stage = record { stage = stage; tasks = [] }
 -- the stage is this ruling's, and its tasks for connection c were added behind all others
 pub record IsRuling (r : Ruling) (c : ℕ) (stage : Stage) (old new : List Action) : Type 0 where
   pub ruled : stage ≡ r.stage
-  pub added : new ≡ old ++ all_for c r.tasks
+  pub added : AreAdded c r.tasks old new
 
 -- another stage, or still these attempts
 abbrev pub next_stage : Option Stage → Attempts → Stage
@@ -46,9 +47,9 @@ next_stage (Some stage) a = stage
 abbrev pub connect_end : Limits → ℕ → ℕ
 connect_end limits start = min (start + limits.connect) (total_end limits.total start)
 
--- how long a connection may be silent: one that has all it wanted, no longer than for a farewell
+-- how long a connection may be silent: one that has all it wanted, no longer than a Close is waited for
 abbrev pub silence_of : Limits → Talk → ℕ
-silence_of limits t = if t.leaving then min limits.patience FAREWELL else limits.patience
+silence_of limits t = if t.leaving then min limits.patience CLOSE_PATIENCE else limits.patience
 
 -- when a connection has been silent for too long; it is not before it is listened to
 abbrev pub silence_end : Limits → Bool → Talk → ℕ
@@ -122,7 +123,7 @@ connecting_ruling limits start now wanted (signals.NoSocket k) a =
     staying (Connecting (if is_open k a.states then with_waiting now k a else a))
 connecting_ruling limits start now wanted signals.GiveUp a = giving_up endings.Turns a
 connecting_ruling limits start now wanted signals.Tick a = connecting_late limits start now a
-connecting_ruling limits start now wanted (signals.Octets standing) a = staying (Connecting a)
+connecting_ruling limits start now wanted (signals.Octets condition) a = staying (Connecting a)
 connecting_ruling limits start now wanted signals.Taken a = staying (Connecting a)
 connecting_ruling limits start now wanted signals.End a = staying (Connecting a)
 connecting_ruling limits start now wanted signals.Unreadable a = staying (Connecting a)
@@ -141,10 +142,10 @@ abbrev pub verdict : Talk → Ending → Ending
 verdict t ending = if t.leaving then endings.InputEnded else if t.lost then endings.Write else ending
 
 -- the connection is going, or it has all it wanted
-abbrev pub is_leaving : Standing → Bool
-is_leaving standings.Going = false
-is_leaving standings.Leaving = true
-is_leaving standings.Finished = false
+abbrev pub is_leaving : Condition → Bool
+is_leaving conditions.Going = false
+is_leaving conditions.Leaving = true
+is_leaving conditions.Finished = false
 
 -- one piece fewer may come, if that has a limit
 abbrev pub less_one : Option ℕ → Option ℕ
@@ -152,9 +153,9 @@ less_one None = None
 less_one (Some n) = Some (n - 1)
 
 -- octets came, and this is how the connection stands after them
-abbrev pub with_piece : ℕ → Standing → Talk → Talk
-with_piece now standing t =
-    record { socket = t.socket; heard = now; left = less_one t.left; leaving = is_leaving standing; lost = t.lost }
+abbrev pub with_piece : ℕ → Condition → Talk → Talk
+with_piece now condition t =
+    record { socket = t.socket; heard = now; left = less_one t.left; leaving = is_leaving condition; lost = t.lost }
 
 -- no more pieces may come
 abbrev pub is_used_up : Option ℕ → Bool
@@ -167,10 +168,10 @@ going_on t =
     if is_used_up t.left then ending_talk t (verdict t endings.Turns) else staying (Talking t)
 
 -- octets came: they have ended the connection, or it goes on
-abbrev pub hearing : ℕ → Standing → Talk → Ruling
-hearing now standings.Finished t = ending_talk t endings.Finished
-hearing now standings.Going t = going_on (with_piece now standings.Going t)
-hearing now standings.Leaving t = going_on (with_piece now standings.Leaving t)
+abbrev pub hearing : ℕ → Condition → Talk → Ruling
+hearing now conditions.Finished t = ending_talk t endings.Finished
+hearing now conditions.Going t = going_on (with_piece now conditions.Going t)
+hearing now conditions.Leaving t = going_on (with_piece now conditions.Leaving t)
 
 -- a write failed: what still comes is read, unless the connection has all it wanted
 abbrev pub losing : Talk → Ruling
@@ -184,7 +185,7 @@ listening now wanted t =
 
 -- what is told of a connection that is talked with
 abbrev pub talking_ruling : ℕ → Bool → Signal → Talk → Ruling
-talking_ruling now wanted (signals.Octets standing) t = hearing now standing t
+talking_ruling now wanted (signals.Octets condition) t = hearing now condition t
 talking_ruling now wanted signals.Taken t = staying (Talking (record t { heard = now }))
 talking_ruling now wanted signals.End t = ending_talk t (verdict t endings.InputEnded)
 talking_ruling now wanted signals.Unreadable t = ending_talk t (verdict t endings.Read)

@@ -3,7 +3,7 @@ ghost use Rattle.std.specs.Prelude.{◌≡◌, ◌+◌, ◌<◌, ◌++◌, [], �
 ghost use Rattle.std.specs.List.{list_all};
 ghost use Rattle.zoom_clock.specs.declared.attempt.Attempt.TheVariants.{Failed};
 ghost use Rattle.zoom_clock.specs.declared.action.Task.TheVariants.{Connect};
-ghost use Rattle.zoom_clock.specs.Actions.{for_connection, all_for};
+ghost use Rattle.zoom_clock.specs.Actions.{for_connection, AreAdded};
 ghost use Rattle.zoom_clock.specs.Attempts.{is_open, has_failed, next_of, leaves, first_attempts, with_begun, with_failed, with_waiting, next_at};
 ghost use Rattle.zoom_clock.specs.Times.{IsTime};
 
@@ -13,8 +13,8 @@ use crate::limits::later;
 use std::alloc::{AllocError, Global};
 use std::collections::VecDeque;
 
-/// How long an attempt is waited for before the next is begun, in nanoseconds: RFC 8305 recommends 250 milliseconds.
-pub(crate) const STAGGER: u64 = 250_000_000;
+/// The connection attempt delay, in nanoseconds: RFC 8305, 5 recommends 250 milliseconds.
+pub(crate) const ATTEMPT_DELAY: u64 = 250_000_000;
 
 /// The attempts to connect to a host, in the order of its addresses.
 #[derive(Drop)]
@@ -67,7 +67,7 @@ impl Attempts {
         ensures { IsTime (next_at self.now) result }
     {
         match self.next() {
-            Some(_) => later(self.since, STAGGER),
+            Some(_) => later(self.since, ATTEMPT_DELAY),
             None => None,
         }
     }
@@ -101,7 +101,7 @@ impl Attempts {
 
     /// Leaves each open attempt.
     pub fn leave_all(&self, c: u32, queue: &mut VecDeque<Action>) -> Result<(), AllocError>
-        ensures { OnOk result (queue.new.items ≡ queue.old.items ++ all_for c (leaves self.now.states)) }
+        ensures { OnOk result (AreAdded c (leaves self.now.states) queue.old.items queue.new.items) }
     {
         for k in 0..self.states.len() {
             if self.is_open(k) {

@@ -1,6 +1,6 @@
 //! The course of a connection.
 ghost use Rattle.std.specs.Prelude.{◌≡◌, ◌++◌, max, IfOk, OnOk};
-ghost use Rattle.zoom_clock.specs.Actions.{all_for};
+ghost use Rattle.zoom_clock.specs.Actions.{AreAdded};
 ghost use Rattle.zoom_clock.specs.Stages.{first_ruling};
 ghost use Rattle.zoom_clock.specs.Courses.{event, first_course, step, tasks_of, wake_of, is_settled, is_idle, wanted_after};
 ghost use Rattle.zoom_clock.specs.Times.{IsTime};
@@ -38,8 +38,7 @@ impl Course {
         queue: &mut VecDeque<Action>,
     ) -> Result<Self, AllocError>
         ensures course { IfOk result (λ p. p ≡ first_course limits addresses start wanted) }
-        ensures tasks { OnOk result (queue.new.items
-            ≡ queue.old.items ++ all_for c (first_ruling addresses start).tasks) }
+        ensures tasks { OnOk result (AreAdded c (first_ruling addresses start).tasks queue.old.items queue.new.items) }
     {
         Ok(Course {
             limits,
@@ -60,7 +59,7 @@ impl Course {
         queue: &mut VecDeque<Action>,
     ) -> Result<(), AllocError>
         ensures step { OnOk result (self.new ≡ step (event at what) self.old) }
-        ensures tasks { OnOk result (queue.new.items ≡ queue.old.items ++ all_for c (tasks_of (event at what) self.old)) }
+        ensures tasks { OnOk result (AreAdded c (tasks_of (event at what) self.old) queue.old.items queue.new.items) }
     {
         if self.is_idle(at, what) {
             return Ok(());

@@ -23,7 +23,7 @@ pub use clock::Clock;
 pub use course::Course;
 pub use limits::Limits;
 pub use plan::Plan;
-pub use signal::{Ending, Signal, Standing};
+pub use signal::{Condition, Ending, Signal};
 pub use stage::Stage;
 pub use talk::Talk;
 pub use wakes::Wakes;

@@ -1,6 +1,6 @@
 //! How one connection is to be asked.
 ghost use Rattle.std.specs.Prelude.{◌≡◌, ◌++◌, IfOk, OnOk};
-ghost use Rattle.zoom_clock.specs.Actions.{all_for};
+ghost use Rattle.zoom_clock.specs.Actions.{AreAdded};
 ghost use Rattle.zoom_clock.specs.Plans.{planned};
 ghost use Rattle.zoom_clock.specs.Stages.{first_ruling};
 
@@ -28,7 +28,7 @@ pub(crate) fn first_course(
     queue: &mut VecDeque<Action>,
 ) -> Result<Course, AllocError>
     ensures course { IfOk result (λ p. p ≡ planned start wanted plan) }
-    ensures tasks { OnOk result (queue.new.items ≡ queue.old.items ++ all_for c (first_ruling plan.addresses start).tasks) }
+    ensures tasks { OnOk result (AreAdded c (first_ruling plan.addresses start).tasks queue.old.items queue.new.items) }
 {
     Course::new(alloc, c, plan.limits, plan.addresses, start, wanted, queue)
 }

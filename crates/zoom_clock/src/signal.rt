@@ -10,7 +10,7 @@ pub enum Signal {
     /// The system had no socket left for the attempt of this number. It is made again, before any other.
     NoSocket(usize),
     /// Octets came, and were processed.
-    Octets(Standing),
+    Octets(Condition),
     /// The host took octets.
     Taken,
     /// No more octets come.
@@ -29,7 +29,7 @@ pub enum Signal {
 
 /// How a connection stands after octets that came.
 #[derive(Clone, Copy, Debug, PartialEq, Eq)]
-pub enum Standing {
+pub enum Condition {
     /// It goes on.
     Going,
     /// It has all it wanted, and waits only for the other end to close.

@@ -1,7 +1,7 @@
 //! How far a connection is, and what becomes of it by the rules.
 ghost use Rattle.std.specs.Prelude.{◌≡◌, ◌++◌, true, IfOk, OnOk};
 ghost use Rattle.zoom_clock.specs.declared.stage.Stage.TheVariants.{Connecting, Talking};
-ghost use Rattle.zoom_clock.specs.Actions.{all_for};
+ghost use Rattle.zoom_clock.specs.Actions.{AreAdded};
 ghost use Rattle.zoom_clock.specs.Stages.{IsRuling, next_stage, first_ruling, beginning_next, failing, giving_up, reading, winning, connecting_late, connecting_ruling, ending_talk, hearing, losing, listening, verdict, talking_ruling, ruling, connect_end, wake_in};
 ghost use Rattle.zoom_clock.specs.Attempts.{is_open, with_failed};
 ghost use Rattle.zoom_clock.specs.Times.{IsTime};
@@ -9,7 +9,7 @@ ghost use Rattle.zoom_clock.specs.Times.{IsTime};
 use crate::action::{Action, Task, put};
 use crate::attempts::Attempts;
 use crate::limits::{Limits, earlier_of, has_come, later, total_end};
-use crate::signal::{Ending, Signal, Standing};
+use crate::signal::{Condition, Ending, Signal};
 use crate::talk::Talk;
 use std::alloc::{AllocError, Global};
 use std::collections::VecDeque;
@@ -161,7 +161,7 @@ fn fail(
 
 /// Octets are wanted, if the turn of the connection has come.
 fn read_if_wanted(at: &Moment, queue: &mut VecDeque<Action>) -> Result<(), AllocError>
-    ensures { OnOk result (queue.new.items ≡ queue.old.items ++ all_for at.now.c (reading at.now.wanted)) }
+    ensures { OnOk result (AreAdded at.now.c (reading at.now.wanted) queue.old.items queue.new.items) }
 {
     if at.wanted {
         return put(queue, at.c, Task::Read);
@@ -257,17 +257,17 @@ fn end_talk(
 /// Octets came: they have ended the connection, or it goes on.
 fn hear(
     at: &Moment,
-    standing: Standing,
+    condition: Condition,
     mut talk: Talk,
     queue: &mut VecDeque<Action>,
 ) -> Result<Stage, AllocError>
-    ensures { IfOk result (λ s. IsRuling (hearing at.now.time standing talk) at.now.c s
+    ensures { IfOk result (λ s. IsRuling (hearing at.now.time condition talk) at.now.c s
         queue.old.items queue.new.items) }
 {
-    if let Standing::Finished = standing {
+    if let Condition::Finished = condition {
         return end_talk(at, &talk, Ending::Finished, queue);
     }
-    if talk.hear(at.time, standing) {
+    if talk.hear(at.time, condition) {
         let ending = talk.verdict(Ending::Turns);
         return end_talk(at, &talk, ending, queue);
     }
@@ -323,7 +323,7 @@ fn note_talking(
         queue.old.items queue.new.items) }
 {
     match what {
-        Signal::Octets(standing) => hear(at, standing, talk, queue),
+        Signal::Octets(condition) => hear(at, condition, talk, queue),
         Signal::Taken => {
             talk.heard = at.time;
             Ok(Stage::Talking(talk))

@@ -4,10 +4,11 @@ ghost use Rattle.zoom_clock.specs.Stages.{silence_of, silence_end, talk_end, ver
 ghost use Rattle.zoom_clock.specs.Times.{IsTime};
 
 use crate::limits::{Limits, earlier_of, later, total_end};
-use crate::signal::{Ending, Standing};
+use crate::signal::{Condition, Ending};
 
-/// How long the other end has for its farewell, once a connection has all it wanted, in nanoseconds.
-pub(crate) const FAREWELL: u64 = 2_000_000_000;
+/// How long the Close of the other end is waited for, once a connection has all it wanted, in nanoseconds
+/// (Z39.50-2003, 3.2.11).
+pub(crate) const CLOSE_PATIENCE: u64 = 2_000_000_000;
 
 /// A connection that is talked with.
 #[derive(Clone, Copy, Debug, PartialEq, Eq)]
@@ -42,8 +43,8 @@ impl Talk {
     fn silence(&self, limits: &Limits) -> u64
         ensures { result ≡ silence_of limits.now self.now }
     {
-        if self.leaving && FAREWELL < limits.patience {
-            FAREWELL
+        if self.leaving && CLOSE_PATIENCE < limits.patience {
+            CLOSE_PATIENCE
         } else {
             limits.patience
         }
@@ -83,12 +84,12 @@ impl Talk {
     }
 
     /// Octets came, and this is how the connection stands after them. Returns whether no more may come.
-    pub fn hear(&mut self, now: u64, standing: Standing) -> bool
-        ensures after { self.new ≡ with_piece now standing self.old }
+    pub fn hear(&mut self, now: u64, condition: Condition) -> bool
+        ensures after { self.new ≡ with_piece now condition self.old }
         ensures used { result ≡ is_used_up self.new.left }
     {
         self.heard = now;
-        self.leaving = is_leaving(standing);
+        self.leaving = is_leaving(condition);
         self.left = less_one(self.left);
         match self.left {
             None => false,
@@ -108,11 +109,11 @@ fn less_one(left: Option<u32>) -> Option<u32>
 }
 
 /// Whether the connection has all it wanted.
-fn is_leaving(standing: Standing) -> bool
-    ensures { result ≡ is_leaving standing }
+fn is_leaving(condition: Condition) -> bool
+    ensures { result ≡ is_leaving condition }
 {
-    match standing {
-        Standing::Leaving => true,
+    match condition {
+        Condition::Leaving => true,
         _ => false,
     }
 }

@@ -1,7 +1,0 @@
-use Rattle.zoom_asking.proofs.Taking.{stands_at}
-use Rattle.zoom_asking.proofs.talk.standing.Goals as goal
-
-pub returns : goal.returns
-returns c =
-    stands_at c.one_transcript.ensures c.args.c c.args.meta.now c.state.result c.standing_of.result c.requires
-    c.state.ensures.state c.standing_of.ensures
