@@ -24,6 +24,7 @@ use Rattle.zoom_pool.specs.Transcripts.{Transcript, IsTranscript, Event, Called,
 use Rattle.zoom_pool.specs.Laws.{OneInput}
 use Rattle.zoom_pool.specs.Metas.{settings_of}
 use Rattle.zoom_asking.specs.Talks.{IsLastResult, IsDriven, AreTaken, one, none, last}
+use Rattle.zoom_asking.specs.Laws.{HasEnded}
 
 -- ---- steps after which the connection is Closed or Failed
 
@@ -135,10 +136,6 @@ IsDry p = (input : Input) × NextInput p input × IsNothing (take_result p input
 -- a connection with these events is over, or no message is waiting on it
 abbrev pub IsDriedUp : MetaSettings → List Event → Type 0
 IsDriedUp s events = (p : Transcript) → IsTranscript (settings_of s) events p → IsOver p ⊎ IsDry p
-
--- a connection with these events is over
-abbrev pub HasEnded : MetaSettings → List Event → Type 0
-HasEnded s events = (p : Transcript) → IsTranscript (settings_of s) events p → IsOver p
 
 -- It was stopped.
 pub stop_ends : (s : MetaSettings) (reason : Reason) (events : List Event) → HasEnded s (Stopped reason ∷ events)

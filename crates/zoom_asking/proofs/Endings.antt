@@ -1,5 +1,6 @@
 -- How connections end: one that is over is Closed or Failed, and on one that is talked with no message is waiting.
-use Rattle.std.proofs.Common.{◌≡◌, ◌∙◌, ◌⊎◌, inl, inr, sym, ap, subst, ℕ, zero, suc, Bool, true, List, [], ◌∷◌, Option, None, Some, refl}
+use Rattle.std.proofs.Common.{◌≡◌, ◌∙◌, ◌⊎◌, inl, inr, sym, ap, subst, ℕ, Bool, true, List, [], ◌∷◌, Option, None, refl}
+use Rattle.std.specs.Prelude.{false, is_some}
 use Rattle.zoom_questions.specs.declared.question.Question.{Question}
 use Rattle.zoom_questions.specs.declared.question.MetaSettings.{MetaSettings}
 use Rattle.zoom_pool.specs.declared.state.State.{State}
@@ -9,7 +10,6 @@ use Rattle.zoom_pool.specs.States.{is_stopped}
 use Rattle.zoom_pool.specs.Transcripts as pool
 use Rattle.zoom_pool.specs.Transcripts.{Transcript, IsTranscript, state_at}
 use Rattle.zoom_pool.specs.Laws.{OneInput}
-use Rattle.zoom_pool.specs.Metas.{settings_of}
 use Rattle.zoom_clock.specs.declared.limits.Limits.{Limits}
 use Rattle.zoom_clock.specs.declared.signal.Ending.{Ending}
 use Rattle.zoom_clock.specs.declared.signal.Ending.TheVariants as endings
@@ -17,26 +17,27 @@ use Rattle.zoom_clock.specs.declared.signal.Signal.{Signal}
 use Rattle.zoom_clock.specs.declared.signal.Signal.TheVariants as signals
 use Rattle.zoom_clock.specs.declared.signal.Condition.TheVariants as conditions
 use Rattle.zoom_clock.specs.declared.stage.Stage.{Stage}
-use Rattle.zoom_clock.specs.declared.stage.Stage.TheVariants.{NotChosen, Connecting, Talking, Over}
-use Rattle.zoom_clock.specs.declared.attempts.Attempts.{Attempts}
+use Rattle.zoom_clock.specs.declared.stage.Stage.TheVariants.{NotChosen, Resolving, Connecting, Talking, Over}
 use Rattle.zoom_clock.specs.declared.course.Course.{Course}
 use Rattle.zoom_clock.specs.declared.talk.Talk.{Talk}
 use Rattle.zoom_clock.specs.Courses.{event, ruling_of, time_of}
-use Rattle.zoom_clock.specs.Stages.{ruling, first_ruling}
+use Rattle.zoom_clock.specs.Stages.{ruling, first_stage}
 use Rattle.zoom_asking.specs.declared.inquiry.AskedHost.{AskedHost}
-use Rattle.zoom_asking.specs.Changes.{change_between}
-use Rattle.zoom_asking.specs.Inquiries.{Inquiry, Event, Told, Came, Noted, addresses_of}
+use Rattle.zoom_asking.specs.declared.change.Kind.TheVariants as kinds
+use Rattle.zoom_asking.specs.Changes.{change_between, change_of}
+use Rattle.zoom_asking.specs.Inquiries.{Inquiry, Event, Told, Came, Noted}
 use Rattle.zoom_asking.specs.Talks.{IsDriven, IsCondition, IsClosed, condition_in}
-use Rattle.zoom_asking.specs.Hosts.{AskedConnection, AskedAfter, AfterChange, IsNoted, IsFed, IsTold, first_events}
-use Rattle.zoom_asking.specs.Laws.{IsReported, AreReported}
-use Rattle.zoom_asking.proofs.Drying.{IsOver, IsDriedUp, HasEnded, stop_ends, end_ends, taken_dries, first_dries}
-use Rattle.zoom_asking.proofs.Rulings.{FromConnecting, connecting_leads, IsEndBy, FromTalking, talking_leads, stage_next}
+use Rattle.zoom_asking.specs.Hosts.{AskedConnection, AskedAfter, AfterChange, IsNoted, IsFed, IsTold}
+use Rattle.zoom_asking.specs.Laws.{IsReported, AreReported, HasEnded}
+use Rattle.zoom_asking.proofs.Drying.{IsDriedUp, stop_ends, end_ends, taken_dries, first_dries}
+use Rattle.zoom_asking.proofs.Rulings.{FromConnecting, connecting_leads, resolving_leads, IsEndBy, FromTalking, talking_leads, stage_next}
 
 -- ---- the events of a connection at a stage
 
 -- before it has connected, it has none; while it is talked with, no message is waiting; then it is Closed or Failed
 abbrev pub FitsStage : MetaSettings → Stage → List pool.Event → Type 0
 FitsStage s NotChosen events = events ≡ []
+FitsStage s Resolving events = events ≡ []
 FitsStage s (Connecting a) events = events ≡ []
 FitsStage s (Talking t) events = IsDriedUp s events
 FitsStage s (Over ending) events = HasEnded s events
@@ -88,6 +89,7 @@ module _ (meeting : OneInput) (s : MetaSettings) (question : Question) (what : S
 
     stays : (stage : Stage) → Brings stage stage → FitsStage s stage events → FitsStage s stage new
     stays NotChosen same fits = same ∙ fits
+    stays Resolving same fits = same ∙ fits
     stays (Connecting a) same fits = same ∙ fits
     stays (Talking t) same fits = subst (IsDriedUp s) (sym same) fits
     stays (Over ending) same fits = subst (HasEnded s) (sym same) fits
@@ -96,26 +98,28 @@ module _ (meeting : OneInput) (s : MetaSettings) (question : Question) (what : S
     still stage next is brings fits =
         subst (λ z. FitsStage s z new) (sym is) (stays stage (subst (Brings stage) is brings) fits)
 
-    connecting : (a : Attempts) (next : Stage) → FromConnecting next → Brings (Connecting a) next → events ≡ []
-        → FitsStage s next new
-    connecting a NotChosen from brings none = absurd from
-    connecting a (Connecting b) from brings none = brings ∙ none
-    connecting a (Talking t) from brings none =
+    connecting : (next : Stage) → FromConnecting next
+        → AfterChange (change_of kinds.Connecting next) s question events new → events ≡ [] → FitsStage s next new
+    connecting NotChosen from brings none = absurd from
+    connecting Resolving from brings none = brings ∙ none
+    connecting (Connecting b) from brings none = brings ∙ none
+    connecting (Talking t) from brings none =
         first_dries s question new (subst (λ z. IsDriven s question z new) none brings)
-    connecting a (Over endings.Connect) from brings none =
+    connecting (Over endings.Connect) from brings none =
         subst (HasEnded s) (sym brings) (stop_ends s reasons.Connect events)
-    connecting a (Over endings.Read) from brings none =
+    connecting (Over endings.Read) from brings none =
         subst (HasEnded s) (sym brings) (stop_ends s reasons.Read events)
-    connecting a (Over endings.Write) from brings none =
+    connecting (Over endings.Write) from brings none =
         subst (HasEnded s) (sym brings) (stop_ends s reasons.Write events)
-    connecting a (Over endings.Turns) from brings none =
+    connecting (Over endings.Turns) from brings none =
         subst (HasEnded s) (sym brings) (stop_ends s reasons.Turns events)
-    connecting a (Over endings.InputEnded) from brings none = absurd from
-    connecting a (Over endings.Finished) from brings none = absurd from
+    connecting (Over endings.InputEnded) from brings none = absurd from
+    connecting (Over endings.Finished) from brings none = absurd from
 
     talking : (t : Talk) (next : Stage) → FromTalking what next → Brings (Talking t) next → IsDriedUp s events
         → FitsStage s next new
     talking t NotChosen from brings dry = absurd from
+    talking t Resolving from brings dry = absurd from
     talking t (Connecting a) from brings dry = absurd from
     talking t (Talking u) from brings dry = subst (IsDriedUp s) (sym brings) dry
     talking t (Over ending) from brings dry =
@@ -126,8 +130,10 @@ module _ (meeting : OneInput) (s : MetaSettings) (question : Question) (what : S
         → FitsStage s stage events → FitsStage s next new
     ruled limits start now wanted stage next (inl is) brings fits = still stage next is brings fits
     ruled limits start now wanted NotChosen next (inr is) brings fits = still NotChosen next is brings fits
+    ruled limits start now wanted Resolving next (inr is) brings fits =
+        connecting next (subst FromConnecting (sym is) (resolving_leads now what)) brings fits
     ruled limits start now wanted (Connecting a) next (inr is) brings fits =
-        connecting a next (subst FromConnecting (sym is) (connecting_leads limits start now wanted what a)) brings fits
+        connecting next (subst FromConnecting (sym is) (connecting_leads limits start now wanted what a)) brings fits
     ruled limits start now wanted (Talking t) next (inr is) brings fits =
         talking t next (subst (FromTalking what) (sym is) (talking_leads now wanted what t)) brings fits
     ruled limits start now wanted (Over ending) next (inr is) brings fits = still (Over ending) next is brings fits
@@ -153,6 +159,7 @@ noted_fits meeting s question at what events old new faithful noted fits =
 faithful_told : (s : MetaSettings) (events : List pool.Event) (what : Signal) → IsReported (Noted what)
     → IsFaithful s events what
 faithful_told s events (signals.Octets condition) reported = absurd reported
+faithful_told s events (signals.Resolved addresses) reported = tt
 faithful_told s events (signals.Connected k) reported = tt
 faithful_told s events (signals.Unreachable k) reported = tt
 faithful_told s events (signals.NoSocket k) reported = tt
@@ -170,6 +177,7 @@ Fits s h = FitsStage s h.course.stage h.events
 fed_fits : OneInput → (s : MetaSettings) (question : Question) (at : ℕ) (piece : List ℕ) (old new : AskedConnection)
     (stage : Stage) → old.course.stage ≡ stage → IsFed s question at piece stage old new → Fits s old → Fits s new
 fed_fits meeting s question at piece old new NotChosen is same fits = subst (Fits s) (sym same) fits
+fed_fits meeting s question at piece old new Resolving is same fits = subst (Fits s) (sym same) fits
 fed_fits meeting s question at piece old new (Connecting a) is same fits = subst (Fits s) (sym same) fits
 fed_fits meeting s question at piece old new (Over ending) is same fits = subst (Fits s) (sym same) fits
 fed_fits meeting s question at piece old new (Talking t) is had fits =
@@ -183,17 +191,15 @@ told_fits meeting s question at (Came piece) old new reported fed fits =
 told_fits meeting s question at (Noted what) old new reported noted fits =
     noted_fits meeting s question at what old.events old new (faithful_told s old.events what reported) noted fits
 
-first_fits : (s : MetaSettings) (addresses : Option ℕ) (start : ℕ)
-    → FitsStage s (first_ruling addresses start).stage (first_events (first_ruling addresses start).stage)
-first_fits s None start = refl
-first_fits s (Some zero) start = stop_ends s reasons.Connect []
-first_fits s (Some (suc more)) start = refl
+first_fits : (s : MetaSettings) (chosen : Bool) → FitsStage s (first_stage chosen) []
+first_fits s true = refl
+first_fits s false = refl
 
 -- The events of a connection fit its stage, after each history.
 pub host_fits : OneInput → (i : Inquiry) (host : Option AskedHost) (question : Question) (es : List Event)
     (h : AskedConnection) → AreReported es → AskedAfter i host question es h → Fits i.settings h
 host_fits meeting i host question [] h reported is =
-    subst (Fits i.settings) (sym is) (first_fits i.settings (addresses_of host) i.start)
+    subst (Fits i.settings) (sym is) (first_fits i.settings (is_some host))
 host_fits meeting i host question (e ∷ es) h reported after =
     told_fits meeting i.settings question e.at e.told after.0 h reported.0 after.2
     (host_fits meeting i host question es after.0 reported.1 after.1)
@@ -231,7 +237,8 @@ told_unasked s question at (Came piece) old new fed u =
     subst IsUnasked (sym (subst (λ z. IsFed s question at piece z old new) u.1 fed)) u
 told_unasked s question at (Noted what) old new noted u = noted_unasked s question at what old new noted u
 
-pub unasked : (i : Inquiry) (question : Question) (es : List Event) (h : AskedConnection) → AskedAfter i None question es h
+pub unasked : (i : Inquiry) (question : Question) (es : List Event) (h : AskedConnection)
+    → AskedAfter i None question es h
     → (h.events ≡ []) × (h.course.stage ≡ NotChosen)
 unasked i question [] h is = subst IsUnasked (sym is) (refl, refl)
 unasked i question (e ∷ es) h after =

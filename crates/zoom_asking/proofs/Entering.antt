@@ -36,15 +36,19 @@ question_at i hosts a c o lt =
 told_here : (c d passed now : ℕ) (told : Told) → c ≡ d
     → own_event d passed (Reported now c told) ≡ Some (event_from passed now told)
 told_here c d passed now told e =
-    elim (eqb_tells c d) [ inl t ↦ ap (λ b. cond b (Some (event_from passed now told)) None) t.0 | inr f ↦ absurd (f.1 e) ]
+    elim (eqb_tells c d)
+    [ inl t ↦ ap (λ b. cond b (Some (event_from passed now told)) None) t.0 | inr f ↦ absurd (f.1 e) ]
 
 told_elsewhere : (c d passed now : ℕ) (told : Told) → (c ≡ d → ⊥) → own_event d passed (Reported now c told) ≡ None
 told_elsewhere c d passed now told n =
-    elim (eqb_tells c d) [ inl t ↦ absurd (n t.1) | inr f ↦ ap (λ b. cond b (Some (event_from passed now told)) None) f.0 ]
+    elim (eqb_tells c d)
+    [ inl t ↦ absurd (n t.1) | inr f ↦ ap (λ b. cond b (Some (event_from passed now told)) None) f.0 ]
 
-one_told : (i : Inquiry) (passed now c : ℕ) (told : Told) (hosts : List AskedConnection) (h g : AskedConnection) (question : Question)
+one_told : (i : Inquiry) (passed now c : ℕ) (told : Told) (hosts : List AskedConnection) (h g : AskedConnection)
+    (question : Question)
     → slice_get hosts c ≡ Some h → slice_get i.questions c ≡ Some question
-    → IsTold i.settings question (max passed now) told h g → AreTold i passed (Reported now c told) hosts (slice_set hosts c g)
+    → IsTold i.settings question (max passed now) told h g
+    → AreTold i passed (Reported now c told) hosts (slice_set hosts c g)
 one_told i passed now c told hosts h g question at asked is = record {
   size = length_set hosts c g;
   each = λ d q x y askq atx aty. by d q x y askq atx (get_set hosts c d g y aty);
@@ -110,7 +114,8 @@ popped old new x meta unsent courses passed in_order orderly queue i history a =
             let u = o.unsent c h get in (u.0, u.1 ∙ ap (λ b. u.0 ++ octets_in (slice_get b.items c)) (sym unsent));
         done = o.done ++ x;
         queue = λ c h get.
-            ap (tasks_for c) (append_assoc o.done x new.clock.queue.items ∙ ap (λ l. o.done ++ l) (sym queue)) ∙ o.queue c h get;
+            ap (tasks_for c) (append_assoc o.done x new.clock.queue.items ∙ ap (λ l. o.done ++ l) (sym queue))
+            ∙ o.queue c h get;
         orderly = orderly o.orderly;
         in_order = in_order ∙ o.in_order;
       };

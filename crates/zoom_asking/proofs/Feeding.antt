@@ -15,7 +15,7 @@ use Rattle.zoom_clock.specs.Clocks.{IsOrderly}
 use Rattle.zoom_clock.specs.declared.signal.Signal.TheVariants as signals
 use Rattle.zoom_clock.specs.declared.signal.Condition.{Condition}
 use Rattle.zoom_clock.specs.declared.stage.Stage.{Stage}
-use Rattle.zoom_clock.specs.declared.stage.Stage.TheVariants.{NotChosen, Connecting, Talking, Over}
+use Rattle.zoom_clock.specs.declared.stage.Stage.TheVariants.{NotChosen, Resolving, Connecting, Talking, Over}
 use Rattle.zoom_clock.specs.Courses.{event, tasks_of}
 use Rattle.zoom_clock.proofs.Places.{get_set_same, get_set_other, set_same, set_set}
 use Rattle.zoom_asking.specs.declared.asking.Asking.{Asking}
@@ -30,7 +30,8 @@ use Rattle.zoom_asking.proofs.Holding.{events, related, talked, talked_host, get
 use Rattle.zoom_asking.proofs.Telling.{no_sends}
 
 -- the course of the clock is that of the connection
-course_is : (i : Inquiry) (hosts : List AskedConnection) (a : Asking) (c : ℕ) (p : Course) (h : AskedConnection) → Holds i hosts a
+course_is : (i : Inquiry) (hosts : List AskedConnection) (a : Asking) (c : ℕ) (p : Course) (h : AskedConnection)
+    → Holds i hosts a
     → slice_get a.clock.courses.items c ≡ Some p → slice_get hosts c ≡ Some h → p ≡ h.course
 course_is i hosts a c p h o here get =
     let there : slice_get a.clock.courses.items c ≡ Some h.course =
@@ -42,6 +43,7 @@ course_is i hosts a c p h o here get =
 not_talking : (s : MetaSettings) (q : Question) (at : ℕ) (piece : List ℕ) (h : AskedConnection) (stage : Stage)
     → lost_of stage ≡ None → IsFed s q at piece stage h h
 not_talking s q at piece h NotChosen e = refl
+not_talking s q at piece h Resolving e = refl
 not_talking s q at piece h (Connecting a) e = refl
 not_talking s q at piece h (Talking t) e = absurd (cc)
 not_talking s q at piece h (Over ending) e = refl
@@ -57,15 +59,18 @@ not_fed c at piece a p here none i hosts h q o get asked =
 
 -- ---- a connection that is talked with
 
-is_fed : (s : MetaSettings) (q : Question) (at : ℕ) (piece : List ℕ) (old new : AskedConnection) (stage : Stage) (lost : Bool)
+is_fed : (s : MetaSettings) (q : Question) (at : ℕ) (piece : List ℕ) (old new : AskedConnection) (stage : Stage)
+    (lost : Bool)
     → lost_of stage ≡ Some lost → HasHeard s q at piece old new → IsFed s q at piece stage old new
 is_fed s q at piece old new NotChosen lost e has = absurd (cc)
+is_fed s q at piece old new Resolving lost e has = absurd (cc)
 is_fed s q at piece old new (Connecting a) lost e has = absurd (cc)
 is_fed s q at piece old new (Talking t) lost e has = has
 is_fed s q at piece old new (Over ending) lost e has = absurd (cc)
 
 same_lost : (stage : Stage) (lost : Bool) → lost_of stage ≡ Some lost → is_lost_at stage ≡ lost
 same_lost NotChosen lost e = absurd (cc)
+same_lost Resolving lost e = absurd (cc)
 same_lost (Connecting a) lost e = absurd (cc)
 same_lost (Talking t) lost e = cc
 same_lost (Over ending) lost e = absurd (cc)
@@ -110,7 +115,8 @@ module _ (c at : ℕ) (piece : List ℕ) (old mid new : Asking) (p : Course) (lo
         at1 : slice_get hosts1 c ≡ Some k
         at1 = get_set_same hosts c k (slice_get_within hosts c h get)
 
-        next : (g : AskedConnection) × IsNoted i.settings q at (signals.Octets condition) heard k g × Holds i (slice_set hosts1 c g) new
+        next : (g : AskedConnection) × IsNoted i.settings q at (signals.Octets condition) heard k g
+            × Holds i (slice_set hosts1 c g) new
         next = told i hosts1 k q o1 at1 asked
 
         lost_here : lost_of h.course.stage ≡ Some lost
@@ -123,10 +129,12 @@ module _ (c at : ℕ) (piece : List ℕ) (old mid new : Asking) (p : Course) (lo
           condition = condition;
           stands = subst (λ l. IsCondition i.settings l condition) (o1.events c k at1)
               (stands i.questions i.settings o1.pool o1.meta);
-          noted = noted_heard i.settings q at condition lost h next.0 heard (same_lost h.course.stage lost lost_here) next.1;
+          noted = noted_heard i.settings q at condition lost h next.0 heard
+              (same_lost h.course.stage lost lost_here) next.1;
         }
 
-        fed_here : (g : AskedConnection) × IsFed i.settings q at piece h.course.stage h g × Holds i (slice_set hosts c g) new
+        fed_here : (g : AskedConnection) × IsFed i.settings q at piece h.course.stage h g
+            × Holds i (slice_set hosts c g) new
         fed_here = (
           next.0,
           is_fed i.settings q at piece h next.0 h.course.stage lost lost_here has,

@@ -1,10 +1,9 @@
 -- What the asking holds, after one connection changed.
-use Rattle.std.proofs.Common.{◌≡◌, ◌⊎◌, inl, inr, ℕ, zero, suc, Bool, cond, not, List, [], ◌∷◌, ◌++◌, map, length, Some, refl, sym, ap, subst, ◌∙◌, arith, append_assoc, append-nil, length-append}
+use Rattle.std.proofs.Common.{◌≡◌, ◌⊎◌, inl, inr, ℕ, Bool, cond, not, List, [], ◌∷◌, ◌++◌, map, length, Some, sym, ap, subst, ◌∙◌, arith, append_assoc, append-nil, length-append}
 use Rattle.std.proofs.lemmas.Bool.Decides.{nat_tests}
 use Rattle.std.proofs.lemmas.Option.{slice_get-map}
 use Rattle.std.specs.Prelude.{slice_get, slice_set, nat_lt, ◌&&◌, option_map}
 use Rattle.zoom_questions.specs.declared.question.Question.{Question}
-use Rattle.zoom_questions.specs.declared.question.MetaSettings.{MetaSettings}
 use Rattle.zoom_pool.specs.Transcripts as pool
 use Rattle.zoom_pool.specs.Transcripts.{given}
 use Rattle.zoom_pool.specs.History.{events_on}
@@ -21,6 +20,7 @@ use Rattle.zoom_clock.proofs.Places.{get_set, length_set, map_set, set_same}
 use Rattle.zoom_asking.specs.declared.asking.Asking.{Asking}
 use Rattle.zoom_asking.specs.Buffers.{octets_in}
 use Rattle.zoom_asking.specs.Inquiries.{Inquiry}
+use Rattle.zoom_asking.specs.Talks.{Relation}
 use Rattle.zoom_asking.specs.Steps.{Extended}
 use Rattle.zoom_asking.specs.Hosts.{new_sends, AskedConnection, sends}
 use Rattle.zoom_asking.specs.Askings.{Holds, IsTalkedOn, tasks_for, unsent_at}
@@ -30,7 +30,8 @@ abbrev course_in : AskedConnection → Course
 course_in h = h.course
 
 -- what a function gives of an element
-pub get_map : {A B : Type 0} (f : A → B) (xs : List A) (c : ℕ) (v : A) → slice_get xs c ≡ Some v → slice_get (map f xs) c ≡ Some (f v)
+pub get_map : {A B : Type 0} (f : A → B) (xs : List A) (c : ℕ) (v : A) → slice_get xs c ≡ Some v
+    → slice_get (map f xs) c ≡ Some (f v)
 get_map f xs c v get = slice_get-map f xs c ∙ ap (option_map f) get
 
 -- ---- what waits to be sent
@@ -77,7 +78,7 @@ talked_host lost h events = record { course = h.course; events = events; tasks =
 
 module _
     (i : Inquiry) (hosts : List AskedConnection) (old new : Asking) (c : ℕ)
-    (R : MetaSettings → Question → List pool.Event → List pool.Event → Type 0) (lost : Bool) (h : AskedConnection)
+    (R : Relation) (lost : Bool) (h : AskedConnection)
     (question : Question) (o : Holds i hosts old) (at : slice_get hosts c ≡ Some h)
     (asked : slice_get i.questions c ≡ Some question) (t : IsTalkedOn c R lost old new)
   where
@@ -142,11 +143,13 @@ module _
             ap (λ n. tasks_for n (o.done ++ new.clock.queue.items)) s.0
             ∙ queue_same c o.done old.clock.queue.items new.clock.queue.items
             (new_sends lost (unsent_at old c) (unsent_at new c)) h.tasks t.clock.queue (o.queue c h at)
-            ∙ ap (λ l. h.tasks ++ l) (same_sends lost (unsent_at old c) (unsent_at new c) h.events events x.out x.kept gave)
+            ∙ ap (λ l. h.tasks ++ l)
+            (same_sends lost (unsent_at old c) (unsent_at new c) h.events events x.out x.kept gave)
             ∙ ap (λ (y : AskedConnection). y.tasks) s.1
         by_queue d k (inr n) =
             queue_other c d o.done old.clock.queue.items new.clock.queue.items
-            (new_sends lost (unsent_at old c) (unsent_at new c)) k.tasks (λ e. n.0 (sym e)) t.clock.queue (o.queue d k n.1)
+            (new_sends lost (unsent_at old c) (unsent_at new c)) k.tasks (λ e. n.0 (sym e)) t.clock.queue
+            (o.queue d k n.1)
 
 -- ---- the clock noted a signal
 
@@ -191,7 +194,8 @@ module _ (i : Inquiry) (hosts : List AskedConnection) (old new : Asking) (c : �
             let u = o.unsent c h at in (
               u.0,
               ap (λ (z : AskedConnection). given z.events) (sym s.1) ∙ u.1
-                  ∙ ap (λ b. u.0 ++ octets_in (slice_get b.items c)) (sym unsent) ∙ ap (λ m. u.0 ++ unsent_at new m) (sym s.0),
+                  ∙ ap (λ b. u.0 ++ octets_in (slice_get b.items c)) (sym unsent)
+                  ∙ ap (λ m. u.0 ++ unsent_at new m) (sym s.0),
             )
         by_unsent d y (inr f) =
             let u = o.unsent d y f.1 in (u.0, u.1 ∙ ap (λ b. u.0 ++ octets_in (slice_get b.items d)) (sym unsent))

@@ -21,6 +21,7 @@ pub mod Drying
 pub mod Rulings
 pub mod Endings
 pub mod Turned
-pub mod Beginning
 pub mod Starting
 pub mod Settling
+pub mod Ended
+pub mod GivenUp

@@ -1,19 +1,19 @@
 -- At once, what became of a connection is a function of what was told of it.
 use Rattle.std.proofs.Common.{◌≡◌, inl, inr, ℕ, ◌<◌, true, List, [], ◌∷◌, ◌++◌, map, length, slice_get, get_or, Option, None, Some, refl, sym, ap, subst, ◌∙◌, true≢false}
-use Rattle.std.specs.Prelude.{option_to_list, option_map}
+use Rattle.std.specs.Prelude.{is_some, option_to_list, option_map}
 use Rattle.std.proofs.lemmas.Option.{same_Some, slice_get-map, slice_get-get_or, slice_get_within}
 use Rattle.zoom_questions.specs.declared.question.Question.{Question}
 use Rattle.zoom_pool.specs.Transcripts as pool
 use Rattle.zoom_clock.specs.declared.signal.Signal.{Signal}
 use Rattle.zoom_clock.specs.declared.signal.Signal.TheVariants as signals
 use Rattle.zoom_clock.specs.declared.stage.Stage.{Stage}
-use Rattle.zoom_clock.specs.declared.stage.Stage.TheVariants.{NotChosen, Connecting, Talking, Over}
+use Rattle.zoom_clock.specs.declared.stage.Stage.TheVariants.{NotChosen, Resolving, Connecting, Talking, Over}
 use Rattle.zoom_clock.specs.Courses as clock
 use Rattle.zoom_clock.specs.Courses.{course_after, step}
 use Rattle.zoom_asking.specs.declared.inquiry.AskedHost.{AskedHost}
 use Rattle.zoom_asking.specs.declared.inquiry.Manner.{Manner}
 use Rattle.zoom_asking.specs.declared.inquiry.Manner.TheVariants as manners
-use Rattle.zoom_asking.specs.Inquiries.{Inquiry, Event, Told, Came, Noted, is_at_once, limits_of, addresses_of, own, own_event, passed_in}
+use Rattle.zoom_asking.specs.Inquiries.{Inquiry, Event, Told, Came, Noted, is_at_once, limits_of, own, own_event, passed_in}
 use Rattle.zoom_asking.specs.Hosts.{AskedConnection, AskedAfter, IsNoted, IsFed, IsTold, first_host}
 use Rattle.zoom_asking.specs.Askings.{IsToldIf, after_turns, time_in}
 use Rattle.zoom_asking.specs.Laws.{OwnLaw, CourseLaw, AreSignals, IsSignalOf, IsSilent}
@@ -33,7 +33,8 @@ told_then i host question None es old new after told = subst (AskedAfter i host 
 told_then i host question (Some e) es old new after told = (old, after, told)
 
 -- two lists that are as long have elements at the same places
-pub beside : (xs ys : List AskedConnection) (c : ℕ) (y : AskedConnection) → length ys ≡ length xs → slice_get ys c ≡ Some y
+pub beside : (xs ys : List AskedConnection) (c : ℕ) (y : AskedConnection) → length ys ≡ length xs
+    → slice_get ys c ≡ Some y
     → slice_get xs c ≡ Some (get_or xs c y)
 beside xs ys c y size at = slice_get-get_or xs c y (subst (λ n. c < n) size (slice_get_within ys c y at))
 
@@ -63,7 +64,7 @@ unsaid e es (x ∷ xs) silent are = inr (silent, are)
 abbrev Follows : Inquiry → Option AskedHost → List Event → AskedConnection → Type 0
 Follows i host es h =
     (xs : List clock.Event) × AreSignals es xs
-    × (h.course ≡ course_after (limits_of i.manner i.total host) (addresses_of host) i.start (is_at_once i.manner) xs)
+    × (h.course ≡ course_after (limits_of i.manner i.total host) (is_some host) i.start (is_at_once i.manner) xs)
 
 -- a signal that was noted is one step of the clock
 noted_then : (i : Inquiry) (host : Option AskedHost) (question : Question) (e : Event) (es : List Event) (what : Signal)
@@ -79,12 +80,15 @@ unchanged i host e es old new f silent same =
     (f.0, unsaid e es f.0 silent f.1, ap (λ (h : AskedConnection). h.course) same ∙ f.2)
 
 fed_then : (i : Inquiry) (host : Option AskedHost) (question : Question) (at : ℕ) (piece : List ℕ) (es : List Event)
-    (stage : Stage) (old new : AskedConnection) → Follows i host es old → IsFed i.settings question at piece stage old new
+    (stage : Stage) (old new : AskedConnection) → Follows i host es old
+    → IsFed i.settings question at piece stage old new
     → Follows i host (record { at = at; told = Came piece } ∷ es) new
 fed_then i host question at piece es (Talking t) old new f heard =
     noted_then i host question (record { at = at; told = Came piece }) es (signals.Octets heard.condition) heard.heard
     old new f (heard.condition, refl) heard.noted
 fed_then i host question at piece es NotChosen old new f same =
+    unchanged i host (record { at = at; told = Came piece }) es old new f tt same
+fed_then i host question at piece es Resolving old new f same =
     unchanged i host (record { at = at; told = Came piece }) es old new f tt same
 fed_then i host question at piece es (Connecting a) old new f same =
     unchanged i host (record { at = at; told = Came piece }) es old new f tt same

@@ -17,7 +17,9 @@ tasks_one : (c : ℕ) (x : Action) (xs : List Action)
     → tasks_for c (x ∷ xs) ≡ cond (x.c == c) (x.task ∷ tasks_for c xs) (tasks_for c xs)
 tasks_one c x xs = by (x.c == c)
   where
-    by : (b : Bool) → map (λ (y : Action). y.task) (cond b (x ∷ filter (λ (y : Action). y.c == c) xs) (filter (λ (y : Action). y.c == c) xs))
+    by : (b : Bool)
+        → map (λ (y : Action). y.task)
+        (cond b (x ∷ filter (λ (y : Action). y.c == c) xs) (filter (λ (y : Action). y.c == c) xs))
         ≡ cond b (x.task ∷ tasks_for c xs) (tasks_for c xs)
     by true = refl
     by false = refl

@@ -16,14 +16,15 @@ use Rattle.zoom_clock.specs.declared.signal.Ending.TheVariants as endings
 use Rattle.zoom_clock.specs.declared.signal.Signal.{Signal}
 use Rattle.zoom_clock.specs.declared.signal.Signal.TheVariants as signals
 use Rattle.zoom_clock.specs.declared.stage.Stage.{Stage}
-use Rattle.zoom_clock.specs.declared.stage.Stage.TheVariants.{NotChosen, Connecting, Talking, Over}
+use Rattle.zoom_clock.specs.declared.stage.Stage.TheVariants.{NotChosen, Resolving, Connecting, Talking, Over}
 use Rattle.zoom_clock.specs.Courses as clock
 use Rattle.zoom_clock.specs.Courses.{event, step, tasks_of, is_settled}
 use Rattle.zoom_asking.specs.declared.inquiry.AskedHost.{AskedHost}
-use Rattle.zoom_asking.specs.Changes.{change_between}
+use Rattle.zoom_asking.specs.declared.change.Kind.TheVariants as kinds
+use Rattle.zoom_asking.specs.Changes.{change_between, change_of}
 use Rattle.zoom_asking.specs.Inquiries.{Inquiry, Event, Told, Came, Noted}
 use Rattle.zoom_asking.specs.Talks.{closing, condition_in}
-use Rattle.zoom_asking.specs.Hosts.{AskedConnection, AskedAfter, AfterChange, IsNoted, HasHeard, IsFed, IsTold, sends, is_lost_at, first_events, first_host}
+use Rattle.zoom_asking.specs.Hosts.{AskedConnection, AskedAfter, AfterChange, IsNoted, HasHeard, IsFed, IsTold, sends, is_lost_at, first_host}
 use Rattle.zoom_asking.specs.Laws.{AreAlike}
 use Rattle.zoom_asking.proofs.Alike.{IsNoCall, AreSame, alike_self, same_more, same_state}
 use Rattle.zoom_asking.proofs.Steady.{AreSound, sound_noted, sound_told}
@@ -99,6 +100,26 @@ module _ (l : Laws) (s : MetaSettings) (question : Question) (w : IsWanted (posi
         intact = λ going. absurd (true≢false going);
       }))
 
+  -- the connection had not connected
+  kept_connecting : (old new : Stage) → is_settled old ≡ false → (one other after then : List pool.Event)
+      → (is_settled new ≡ false → is_settled old ≡ false) → AreKept s question old one other
+      → AfterChange (change_of kinds.Connecting new) s question one after
+      → AfterChange (change_of kinds.Connecting new) s question other then
+      → AreSound s question after → AreSound s question then → AreKept s question new after then
+  kept_connecting old (Talking t) going one other after then back k x y f g =
+      let intact = k.intact going in
+      let whole = driven_same l s question w lo one after other then x y
+      (record { same = k.same; first = intact.0; second = intact.1 }) f g in
+      record { same = whole.same; intact = λ going. (whole.first, whole.second) }
+  kept_connecting old (Over ending) going one other after then back k x y f g =
+      over_kept ending one other after then k.same x y
+  kept_connecting old NotChosen going one other after then back k x y f g =
+      kept_so old NotChosen one other after then back k x y
+  kept_connecting old Resolving going one other after then back k x y f g =
+      kept_so old Resolving one other after then back k x y
+  kept_connecting old (Connecting b) going one other after then back k x y f g =
+      kept_so old (Connecting b) one other after then back k x y
+
   kept_changed : (old new : Stage) (one other after then : List pool.Event)
       → (is_settled new ≡ false → is_settled old ≡ false) → AreKept s question old one other
       → AfterChange (change_between old new) s question one after
@@ -107,21 +128,16 @@ module _ (l : Laws) (s : MetaSettings) (question : Question) (w : IsWanted (posi
   kept_changed NotChosen new one other after then back k x y f g = kept_so NotChosen new one other after then back k x y
   kept_changed (Over ending) new one other after then back k x y f g =
       kept_so (Over ending) new one other after then back k x y
-  kept_changed (Connecting a) (Talking t) one other after then back k x y f g =
-      let intact = k.intact refl in
-      let whole = driven_same l s question w lo one after other then x y
-      (record { same = k.same; first = intact.0; second = intact.1 }) f g in
-      record { same = whole.same; intact = λ going. (whole.first, whole.second) }
-  kept_changed (Connecting a) (Over ending) one other after then back k x y f g =
-      over_kept ending one other after then k.same x y
+  kept_changed Resolving new one other after then back k x y f g =
+      kept_connecting Resolving new refl one other after then back k x y f g
+  kept_changed (Connecting a) new one other after then back k x y f g =
+      kept_connecting (Connecting a) new refl one other after then back k x y f g
   kept_changed (Talking t) (Over ending) one other after then back k x y f g =
       over_kept ending one other after then k.same x y
-  kept_changed (Connecting a) NotChosen one other after then back k x y f g =
-      kept_so (Connecting a) NotChosen one other after then back k x y
-  kept_changed (Connecting a) (Connecting b) one other after then back k x y f g =
-      kept_so (Connecting a) (Connecting b) one other after then back k x y
   kept_changed (Talking t) NotChosen one other after then back k x y f g =
       kept_so (Talking t) NotChosen one other after then back k x y
+  kept_changed (Talking t) Resolving one other after then back k x y f g =
+      kept_so (Talking t) Resolving one other after then back k x y
   kept_changed (Talking t) (Connecting b) one other after then back k x y f g =
       kept_so (Talking t) (Connecting b) one other after then back k x y
   kept_changed (Talking t) (Talking u) one other after then back k x y f g =
@@ -129,7 +145,8 @@ module _ (l : Laws) (s : MetaSettings) (question : Question) (w : IsWanted (posi
 
   -- ---- what is told of both
 
-  noted_twins : (at : ℕ) (what : Signal) (one other : List pool.Event) (x y v z : AskedConnection) → AreTwins s question x y
+  noted_twins : (at : ℕ) (what : Signal) (one other : List pool.Event) (x y v z : AskedConnection)
+      → AreTwins s question x y
       → AreKept s question x.course.stage one other → IsNoted s question at what one x v
       → IsNoted s question at what other y z → AreSound s question v.events → AreSound s question z.events
       → AreTwins s question v z
@@ -182,10 +199,12 @@ module _ (l : Laws) (s : MetaSettings) (question : Question) (w : IsWanted (posi
       → AreTwins s question v z
   fed_twins at piece (Talking t) x y v z a kept h k f g = heard_twins at piece x y v z a (kept.intact refl) h k f g
   fed_twins at piece NotChosen x y v z a kept h k f g = same_twins x y v z a h k
+  fed_twins at piece Resolving x y v z a kept h k f g = same_twins x y v z a h k
   fed_twins at piece (Connecting b) x y v z a kept h k f g = same_twins x y v z a h k
   fed_twins at piece (Over ending) x y v z a kept h k f g = same_twins x y v z a h k
 
-  told_twins : (at : ℕ) (told : Told) (x y v z : AskedConnection) → AreTwins s question x y → IsTold s question at told x v
+  told_twins : (at : ℕ) (told : Told) (x y v z : AskedConnection) → AreTwins s question x y
+      → IsTold s question at told x v
       → IsTold s question at told y z → AreSound s question v.events → AreSound s question z.events
       → AreTwins s question v z
   told_twins at (Came piece) x y v z a h k f g =
@@ -195,16 +214,9 @@ module _ (l : Laws) (s : MetaSettings) (question : Question) (w : IsWanted (posi
 
   -- ---- histories
 
-  first_intact : (stage : Stage) → is_settled stage ≡ false → is_lost (first_events stage) ≡ false
-  first_intact NotChosen going = refl
-  first_intact (Connecting a) going = refl
-  first_intact (Talking t) going = refl
-  first_intact (Over ending) going = absurd (true≢false going)
-
   first_twins : (i : Inquiry) (host : Option AskedHost) → AreTwins s question (first_host i host) (first_host i host)
   first_twins i host =
       let h = first_host i host in
-      let intact : is_settled h.course.stage ≡ false → is_lost h.events ≡ false = first_intact h.course.stage in
       record {
         course = refl;
         tasks = refl;
@@ -214,12 +226,13 @@ module _ (l : Laws) (s : MetaSettings) (question : Question) (w : IsWanted (posi
                 (alike_self (errand_of s question) p);
             given = refl;
           };
-          intact = λ going. (intact going, intact going);
+          intact = λ going. (refl, refl);
         };
       }
 
   pub twins : (i j : Inquiry) (host : Option AskedHost) → i.settings ≡ s → j.settings ≡ s
-      → first_host j host ≡ first_host i host → (es : List Event) (x y : AskedConnection) → AskedAfter i host question es x
+      → first_host j host ≡ first_host i host → (es : List Event) (x y : AskedConnection)
+      → AskedAfter i host question es x
       → AskedAfter j host question es y → AreSound s question x.events → AreSound s question y.events
       → AreTwins s question x y
   twins i j host one other begun [] x y a b f g =

@@ -1,5 +1,5 @@
 -- Whether all connections are over.
-use Rattle.std.proofs.Common.{◌≡◌, ℕ, zero, suc, Bool, true, false, List, [], ◌∷◌, map, Some, refl, sym, ap, subst, ◌∙◌}
+use Rattle.std.proofs.Common.{◌≡◌, ℕ, zero, suc, Bool, true, false, List, [], ◌∷◌, map, Some, refl, sym, ap, ◌∙◌}
 use Rattle.std.specs.Prelude.{slice_get}
 use Rattle.zoom_clock.specs.declared.course.Course.{Course}
 use Rattle.zoom_clock.specs.Clocks.{AreSettled, SomeIsOpen}

@@ -19,7 +19,7 @@ use Rattle.zoom_clock.specs.declared.signal.Ending.{Ending}
 use Rattle.zoom_clock.specs.declared.signal.Ending.TheVariants as endings
 use Rattle.zoom_clock.specs.declared.signal.Signal.{Signal}
 use Rattle.zoom_clock.specs.declared.stage.Stage.{Stage}
-use Rattle.zoom_clock.specs.declared.stage.Stage.TheVariants.{NotChosen, Connecting, Talking, Over}
+use Rattle.zoom_clock.specs.declared.stage.Stage.TheVariants.{NotChosen, Resolving, Connecting, Talking, Over}
 use Rattle.zoom_asking.specs.declared.change.Change.{Change}
 use Rattle.zoom_asking.specs.declared.change.Change.TheVariants as changes
 use Rattle.zoom_asking.specs.Changes.{change_between}
@@ -139,6 +139,7 @@ module _ (s : MetaSettings) (question : Question) where
       before (Fed piece) old.events (sound_taken (Fed piece ∷ old.events) h.heard h.hears
       (sound_noted at _ h.heard old new h.noted sound))
   sound_fed at piece NotChosen old new same sound = subst (λ (z : AskedConnection). AreSound z.events) same sound
+  sound_fed at piece Resolving old new same sound = subst (λ (z : AskedConnection). AreSound z.events) same sound
   sound_fed at piece (Connecting a) old new same sound = subst (λ (z : AskedConnection). AreSound z.events) same sound
   sound_fed at piece (Over ending) old new same sound = subst (λ (z : AskedConnection). AreSound z.events) same sound
 

@@ -1,12 +1,10 @@
 -- A connection was told something.
-use Rattle.std.proofs.Common.{◌≡◌, ℕ, zero, suc, Bool, true, false, cond, not, List, [], ◌∷◌, ◌++◌, length, Some, refl, sym, ap, subst, ◌∙◌, arith, append-nil}
-use Rattle.std.proofs.lemmas.Bool.Decides.{nat_tests}
+use Rattle.std.proofs.Common.{◌≡◌, ℕ, Bool, false, List, [], ◌++◌, Some, refl, sym, ap, subst, ◌∙◌, append-nil}
 use Rattle.std.proofs.lemmas.Option.{slice_get_within}
-use Rattle.std.specs.Prelude.{slice_get, slice_set, nat_lt, ◌&&◌}
+use Rattle.std.specs.Prelude.{slice_get, slice_set}
 use Rattle.zoom_questions.specs.declared.question.Question.{Question}
 use Rattle.zoom_pool.specs.Transcripts as pool
 use Rattle.zoom_pool.specs.Transcripts.{given}
-use Rattle.zoom_clock.specs.declared.action.Task.TheVariants.{Send}
 use Rattle.zoom_clock.specs.declared.clock.Clock.{Clock}
 use Rattle.zoom_clock.specs.declared.course.Course.{Course}
 use Rattle.zoom_clock.specs.declared.signal.Signal.{Signal}
@@ -32,7 +30,8 @@ pub same_change : (c at : ℕ) (what : Signal) (old : Asking) (clock : Clock) (b
     (change : Change) → AfterNote c (event at what) old.clock clock
     → slice_get old.clock.courses.items c ≡ Some before → slice_get clock.courses.items c ≡ Some after
     → kind ≡ kind_of before.stage → change ≡ change_of kind after.stage
-    → (i : Inquiry) (hosts : List AskedConnection) (h : AskedConnection) → Holds i hosts old → slice_get hosts c ≡ Some h
+    → (i : Inquiry) (hosts : List AskedConnection) (h : AskedConnection) → Holds i hosts old
+    → slice_get hosts c ≡ Some h
     → change ≡ change_between h.course.stage (step (event at what) h.course).stage
 same_change c at what old clock before after kind change n was now kinds changes i hosts h o get =
     let here : slice_get old.clock.courses.items c ≡ Some h.course =
@@ -40,18 +39,23 @@ same_change c at what old clock before after kind change n was now kinds changes
     let first : before ≡ h.course = cc in
     let lt = slice_get_within old.clock.courses.items c before was in
     let there : slice_get clock.courses.items c ≡ Some (step (event at what) before) =
-    ap (λ l. slice_get l c) (n.course before was) ∙ get_set_same old.clock.courses.items c (step (event at what) before) lt in
+    ap (λ l. slice_get l c) (n.course before was)
+    ∙ get_set_same old.clock.courses.items c (step (event at what) before) lt in
     let second : after ≡ step (event at what) before = cc in
     changes ∙ ap (λ k. change_of k after.stage) kinds
     ∙ ap (λ (x : Course). change_of (kind_of before.stage) x.stage) second
     ∙ ap (λ (x : Course). change_of (kind_of x.stage) (step (event at what) x).stage) first
 
-module _ (c at : ℕ) (what : Signal) (old mid new : Asking) (change : Change) (n : AfterNote c (event at what) old.clock mid.clock)
-    (meta : mid.meta ≡ old.meta) (unsent : mid.unsent ≡ old.unsent) (t : IsTalkedOn c (AfterChange change) false mid new)
-    (is : (i : Inquiry) (hosts : List AskedConnection) (h : AskedConnection) → Holds i hosts old → slice_get hosts c ≡ Some h
+module _ (c at : ℕ) (what : Signal) (old mid new : Asking) (change : Change)
+    (n : AfterNote c (event at what) old.clock mid.clock)
+    (meta : mid.meta ≡ old.meta) (unsent : mid.unsent ≡ old.unsent)
+    (t : IsTalkedOn c (AfterChange change) false mid new)
+    (is : (i : Inquiry) (hosts : List AskedConnection) (h : AskedConnection) → Holds i hosts old
+    → slice_get hosts c ≡ Some h
     → change ≡ change_between h.course.stage (step (event at what) h.course).stage)
   where
-    module _ (i : Inquiry) (hosts : List AskedConnection) (h : AskedConnection) (question : Question) (o : Holds i hosts old)
+    module _ (i : Inquiry) (hosts : List AskedConnection) (h : AskedConnection) (question : Question)
+        (o : Holds i hosts old)
         (get : slice_get hosts c ≡ Some h) (asked : slice_get i.questions c ≡ Some question)
       where
         abbrev k : AskedConnection
@@ -88,5 +92,8 @@ module _ (c at : ℕ) (what : Signal) (old mid new : Asking) (change : Change) (
             (talked i hosts1 mid new c (AfterChange change) false k question o1 at1 asked t)
 
     pub told : IsOneTold c at what old new
-    told i hosts h question o get asked =
-        (g i hosts h question o get asked, is_noted i hosts h question o get asked, holds i hosts h question o get asked)
+    told i hosts h question o get asked = (
+      g i hosts h question o get asked,
+      is_noted i hosts h question o get asked,
+      holds i hosts h question o get asked,
+    )

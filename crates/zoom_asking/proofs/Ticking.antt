@@ -7,7 +7,7 @@ use Rattle.zoom_pool.specs.Metas.{MetaAfter}
 use Rattle.zoom_clock.specs.declared.signal.Signal.{Signal}
 use Rattle.zoom_clock.specs.declared.signal.Signal.TheVariants as signals
 use Rattle.zoom_clock.specs.declared.stage.Stage.{Stage}
-use Rattle.zoom_clock.specs.declared.stage.Stage.TheVariants.{NotChosen, Connecting, Talking, Over}
+use Rattle.zoom_clock.specs.declared.stage.Stage.TheVariants.{NotChosen, Resolving, Connecting, Talking, Over}
 use Rattle.zoom_clock.specs.Times.{never}
 use Rattle.zoom_clock.specs.Wakes.{IsDueAt}
 use Rattle.zoom_clock.specs.Clocks.{IsOrderly, NoneIsDue}
@@ -34,7 +34,8 @@ pub record Middle (R : Relation) (i : Inquiry) (hosts : List AskedConnection) (a
   pub mid : List AskedConnection
   pub holds : Holds i mid a
   pub size : length mid ≡ length hosts
-  pub each : (c : ℕ) (q : Question) (h g : AskedConnection) → slice_get i.questions c ≡ Some q → slice_get hosts c ≡ Some h
+  pub each : (c : ℕ) (q : Question) (h g : AskedConnection) → slice_get i.questions c ≡ Some q
+      → slice_get hosts c ≡ Some h
       → slice_get mid c ≡ Some g → R i c q h g
 
 -- the same for all connections that can have been before, at a time
@@ -113,7 +114,8 @@ module _ (x : Entry) (R : Relation) (now at : ℕ) (what : Signal) (old mid new 
     (times : (p : ℕ) → time_in p x ≡ max p now)
     (passes : (start : ℕ) (xs : List Entry) → passed_in start (x ∷ xs) ≡ max (passed_in start xs) now)
     (is : at ≡ max old.clock.passed now) (p : IsPartly R at old mid)
-    (all : (i : Inquiry) (hosts : List AskedConnection) (c : ℕ) (q : Question) (h g : AskedConnection) → Holds i hosts mid
+    (all : (i : Inquiry) (hosts : List AskedConnection) (c : ℕ) (q : Question) (h g : AskedConnection)
+    → Holds i hosts mid
     → slice_get i.questions c ≡ Some q → slice_get hosts c ≡ Some g → R i c q h g
     → IsNoted i.settings q at what h.events h g)
   where
@@ -190,6 +192,7 @@ ticked c at old now new top p lt due one passed size =
 
 no_change : (s : Stage) → change_between s s ≡ changes.Same
 no_change NotChosen = refl
+no_change Resolving = refl
 no_change (Connecting a) = refl
 no_change (Talking t) = refl
 no_change (Over ending) = refl
@@ -241,7 +244,10 @@ gave_up c at old now new p lt one passed size =
         → GaveUp (c + 1) at i c q h g
     here i mid q h x g o get (inl told) noted = let less = told.0 in absurd (omega arith)
     here i mid q h x g o get (inr same) noted =
-        inl (omega arith, subst (λ (z : AskedConnection). IsNoted i.settings q at signals.GiveUp z.events z g) same.1 noted)
+        inl (
+          omega arith,
+          subst (λ (z : AskedConnection). IsNoted i.settings q at signals.GiveUp z.events z g) same.1 noted,
+        )
 
     others : (i : Inquiry) (d : ℕ) (q : Question) (h g : AskedConnection) → (d ≡ c → ⊥) → GaveUp c at i d q h g
         → GaveUp (c + 1) at i d q h g

@@ -7,7 +7,7 @@ use Rattle.zoom_questions.specs.declared.question.MetaSettings.{MetaSettings}
 use Rattle.zoom_clock.specs.declared.course.Course.{Course}
 use Rattle.zoom_clock.specs.declared.signal.Signal.TheVariants as signals
 use Rattle.zoom_clock.specs.declared.stage.Stage.{Stage}
-use Rattle.zoom_clock.specs.declared.stage.Stage.TheVariants.{NotChosen, Connecting, Talking, Over}
+use Rattle.zoom_clock.specs.declared.stage.Stage.TheVariants.{NotChosen, Resolving, Connecting, Talking, Over}
 use Rattle.zoom_clock.specs.declared.talk.Talk.{Talk}
 use Rattle.zoom_clock.specs.Stages.{listening, ruling}
 use Rattle.zoom_clock.specs.Courses.{event, is_settled, step, tasks_of, time_of}
@@ -23,23 +23,28 @@ use Rattle.zoom_asking.specs.Laws.{AreReported, AskedOn, TurnsLaw, but_turns, is
 use Rattle.zoom_asking.proofs.Owning.{beside}
 use Rattle.zoom_asking.proofs.Rulings.{stage_next}
 use Rattle.zoom_asking.proofs.Telling.{no_sends}
+use Rattle.zoom_asking.proofs.TurnsTaken.{turned_host}
 
 -- ---- a turn changes no events
 
 no_change : (stage : Stage) → change_between stage stage ≡ changes.Same
 no_change NotChosen = refl
+no_change Resolving = refl
 no_change (Connecting a) = refl
 no_change (Talking t) = refl
 no_change (Over ending) = refl
 
-still_talks : (t : Talk) (now : ℕ) (wanted : Bool) → change_between (Talking t) (listening now wanted t).stage ≡ changes.Same
+still_talks : (t : Talk) (now : ℕ) (wanted : Bool)
+    → change_between (Talking t) (listening now wanted t).stage ≡ changes.Same
 still_talks t now true = refl
 still_talks t now false = refl
 
 rule_changes : (p : Course) (at : ℕ) (stage : Stage) → p.stage ≡ stage
-    → change_between stage (ruling p.limits p.start (time_of (event at signals.Turn) p) p.wanted signals.Turn stage).stage
+    → change_between stage
+    (ruling p.limits p.start (time_of (event at signals.Turn) p) p.wanted signals.Turn stage).stage
     ≡ changes.Same
 rule_changes p at NotChosen e = refl
+rule_changes p at Resolving e = refl
 rule_changes p at (Connecting a) e = refl
 rule_changes p at (Talking t) e = still_talks t (time_of (event at signals.Turn) p) p.wanted
 rule_changes p at (Over ending) e = refl
@@ -49,14 +54,6 @@ turn_changes p at = elim (stage_next (event at signals.Turn) p) [
   | inl e ↦ ap (change_between p.stage) e ∙ no_change p.stage
   | inr e ↦ ap (change_between p.stage) e ∙ rule_changes p at p.stage refl
 ]
-
--- a connection whose turn has come
-abbrev turned_host : ℕ → AskedConnection → AskedConnection
-turned_host at h = record {
-  course = step (event at signals.Turn) h.course;
-  events = h.events;
-  tasks = h.tasks ++ tasks_of (event at signals.Turn) h.course;
-}
 
 turn_noted : (s : MetaSettings) (q : Question) (at : ℕ) (h : AskedConnection)
     → IsNoted s q at signals.Turn h.events h (turned_host at h)
@@ -73,7 +70,7 @@ turn_noted s q at h = record {
 -- ---- who gets a turn
 
 -- this connection was there, or it is one whose turn has come
-abbrev Found : ℕ → List AskedConnection → ℕ → AskedConnection → Type 0
+abbrev pub Found : ℕ → List AskedConnection → ℕ → AskedConnection → Type 0
 Found at hosts c h = (k : AskedConnection) × (slice_get hosts c ≡ Some k) × ((h ≡ k) ⊎ (h ≡ turned_host at k))
 
 given_turn : (at : ℕ) (x : AskedConnection) → (with_turn at x ≡ x) ⊎ (with_turn at x ≡ turned_host at x)
@@ -86,19 +83,21 @@ given_turn at x = by x.course.wanted
 first_turn : (at : ℕ) (x h : AskedConnection) (xs : List AskedConnection) → with_turn at x ≡ h → Found at (x ∷ xs) 0 h
 first_turn at x h xs e = (x, refl, elim (given_turn at x) [ inl s ↦ inl (sym e ∙ s) | inr s ↦ inr (sym e ∙ s) ])
 
-next_found : (at : ℕ) (hosts : List AskedConnection) (c : ℕ) (h : AskedConnection) → slice_get (with_next_turn at hosts) c ≡ Some h
+next_found : (at : ℕ) (hosts : List AskedConnection) (c : ℕ) (h : AskedConnection)
+    → slice_get (with_next_turn at hosts) c ≡ Some h
     → Found at hosts c h
 next_found at [] c h get = absurd (cc)
 next_found at (x ∷ xs) c h get = by (is_settled x.course.stage) (next_found at xs) c get
   where
     by : (b : Bool) → ((d : ℕ) (y : AskedConnection) → slice_get (with_next_turn at xs) d ≡ Some y → Found at xs d y)
-        → (d : ℕ) → slice_get (cond b (x ∷ with_next_turn at xs) (with_turn at x ∷ xs)) d ≡ Some h → Found at (x ∷ xs) d h
+        → (d : ℕ) → slice_get (cond b (x ∷ with_next_turn at xs) (with_turn at x ∷ xs)) d ≡ Some h
+        → Found at (x ∷ xs) d h
     by true later zero is = (x, refl, inl (sym (same_Some x h is)))
     by true later (suc d) is = later d h is
     by false later zero is = first_turn at x h xs (same_Some (with_turn at x) h is)
     by false later (suc d) is = (h, is, inl refl)
 
-found : (m : Manner) (at : ℕ) (hosts : List AskedConnection) (c : ℕ) (h : AskedConnection)
+pub found : (m : Manner) (at : ℕ) (hosts : List AskedConnection) (c : ℕ) (h : AskedConnection)
     → slice_get (after_turns m at hosts) c ≡ Some h → Found at hosts c h
 found manners.AtOnce at hosts c h get = (h, get, inl refl)
 found manners.InOrder at hosts c h get = next_found at hosts c h get
@@ -106,13 +105,15 @@ found manners.InOrder at hosts c h get = next_found at hosts c h get
 -- ---- a history of its own
 
 -- a history of its own for these events of it
-record Owned (i : Inquiry) (host : Option AskedHost) (question : Question) (ds : List Event) (h : AskedConnection) : Type 0 where
+record Owned (i : Inquiry) (host : Option AskedHost) (question : Question) (ds : List Event)
+    (h : AskedConnection) : Type 0 where
   es : List Event
   after : AskedAfter i host question es h
   same : but_turns es ≡ but_turns ds
   reported : AreReported ds → AreReported es
 
-turn_then : (i : Inquiry) (host : Option AskedHost) (question : Question) (ds : List Event) (at : ℕ) (k h : AskedConnection)
+turn_then : (i : Inquiry) (host : Option AskedHost) (question : Question) (ds : List Event) (at : ℕ)
+    (k h : AskedConnection)
     → Owned i host question ds k → (h ≡ k) ⊎ (h ≡ turned_host at k) → Owned i host question ds h
 turn_then i host question ds at k h o (inl e) = subst (Owned i host question ds) (sym e) o
 turn_then i host question ds at k h o (inr e) = subst (Owned i host question ds) (sym e) (record {

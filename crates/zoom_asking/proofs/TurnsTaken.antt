@@ -19,6 +19,14 @@ use Rattle.zoom_asking.specs.Askings.{Holds, with_turn, with_next_turn, after_tu
 use Rattle.zoom_asking.proofs.Queues.{tasks_append, tasks_same, tasks_other}
 use Rattle.zoom_pool.specs.Metas.{MetaAfter}
 
+-- a connection whose turn has come
+abbrev pub turned_host : ℕ → AskedConnection → AskedConnection
+turned_host at h = record {
+  course = step (event at signals.Turn) h.course;
+  events = h.events;
+  tasks = h.tasks ++ tasks_of (event at signals.Turn) h.course;
+}
+
 abbrev courses_of : List AskedConnection → List Course
 courses_of hosts = map (λ (h : AskedConnection). h.course) hosts
 
@@ -37,7 +45,8 @@ none_for at d j (p ∷ ps) lt = by (is_settled p.stage) (none_for at d (j + 1) p
     turn false = tasks_other d j (tasks_of (event at signals.Turn) p) (λ e. omega arith)
 
 -- what the turn changes of one connection
-pub record TurnedHost (at d : ℕ) (tasks : List Action) (hosts : List AskedConnection) (c : ℕ) (y : AskedConnection) : Type 0 where
+pub record TurnedHost (at d : ℕ) (tasks : List Action) (hosts : List AskedConnection) (c : ℕ)
+    (y : AskedConnection) : Type 0 where
   pub host : AskedConnection
   pub stands : slice_get hosts c ≡ Some host
   pub events : y.events ≡ host.events
@@ -48,7 +57,8 @@ TurnAt at i hosts =
     (c : ℕ) (y : AskedConnection) → slice_get (with_next_turn at hosts) c ≡ Some y
     → TurnedHost at (i + c) (next_turn_tasks at i (courses_of hosts)) hosts c y
 
-first_over : (at i : ℕ) (h : AskedConnection) (hs : List AskedConnection) → TurnAt at (i + 1) hs → (c : ℕ) (y : AskedConnection)
+first_over : (at i : ℕ) (h : AskedConnection) (hs : List AskedConnection) → TurnAt at (i + 1) hs
+    → (c : ℕ) (y : AskedConnection)
     → slice_get (h ∷ with_next_turn at hs) c ≡ Some y
     → TurnedHost at (i + c) (next_turn_tasks at (i + 1) (courses_of hs)) (h ∷ hs) c y
 first_over at i h hs later zero y get =
@@ -79,25 +89,27 @@ first_turned at i h hs zero y get = by h.course.wanted refl
 
     by : (b : Bool) → h.course.wanted ≡ b → TurnedHost at (i + 0) (turn_tasks at i h.course) (h ∷ hs) 0 y
     by true e =
-        let same : with_turn at h ≡ h = ap (λ b. cond b h (record { course = step (event at signals.Turn) h.course; events = h.events; tasks = h.tasks ++ tasks_of (event at signals.Turn) h.course })) e in
+        let same : with_turn at h ≡ h = ap (λ b. cond b h (turned_host at h)) e in
         record {
           host = h;
           stands = refl;
           events = ap (λ (x : AskedConnection). x.events) (sym is ∙ same);
           tasks_are = ap (λ (x : AskedConnection). x.tasks) (sym is ∙ same) ∙ sym (append-nil h.tasks)
-              ∙ ap (λ b. h.tasks ++ tasks_for (i + 0) (cond b [] (all_for i (tasks_of (event at signals.Turn) h.course)))) (sym e);
+              ∙ ap (λ b. h.tasks
+              ++ tasks_for (i + 0) (cond b [] (all_for i (tasks_of (event at signals.Turn) h.course)))) (sym e);
         }
     by false e =
-        let turned : AskedConnection = record { course = step (event at signals.Turn) h.course; events = h.events; tasks = h.tasks ++ tasks_of (event at signals.Turn) h.course } in
-        let same : with_turn at h ≡ turned = ap (λ b. cond b h turned) e in
+        let same : with_turn at h ≡ turned_host at h = ap (λ b. cond b h (turned_host at h)) e in
         record {
           host = h;
           stands = refl;
           events = ap (λ (x : AskedConnection). x.events) (sym is ∙ same);
           tasks_are = ap (λ (x : AskedConnection). x.tasks) (sym is ∙ same)
               ∙ ap (λ l. h.tasks ++ l) (sym (tasks_same i (tasks_of (event at signals.Turn) h.course)))
-              ∙ ap (λ d. h.tasks ++ tasks_for d (all_for i (tasks_of (event at signals.Turn) h.course))) (sym (add-zero i))
-              ∙ ap (λ b. h.tasks ++ tasks_for (i + 0) (cond b [] (all_for i (tasks_of (event at signals.Turn) h.course)))) (sym e);
+              ∙ ap (λ d. h.tasks ++ tasks_for d (all_for i (tasks_of (event at signals.Turn) h.course)))
+              (sym (add-zero i))
+              ∙ ap (λ b. h.tasks
+              ++ tasks_for (i + 0) (cond b [] (all_for i (tasks_of (event at signals.Turn) h.course)))) (sym e);
         }
 first_turned at i h hs (suc c) y get = record {
   host = y;
@@ -112,7 +124,8 @@ first_turned at i h hs (suc c) y get = record {
 
 turn_at : (at i : ℕ) (hosts : List AskedConnection) → TurnAt at i hosts
 turn_at at i [] c y get = absurd (cc)
-turn_at at i (h ∷ hs) c y get = by (is_settled h.course.stage) (first_over at i h hs (turn_at at (i + 1) hs)) (first_turned at i h hs) c y get
+turn_at at i (h ∷ hs) c y get =
+    by (is_settled h.course.stage) (first_over at i h hs (turn_at at (i + 1) hs)) (first_turned at i h hs) c y get
   where
     by : (b : Bool)
         → ((c : ℕ) (y : AskedConnection) → slice_get (h ∷ with_next_turn at hs) c ≡ Some y
@@ -120,7 +133,8 @@ turn_at at i (h ∷ hs) c y get = by (is_settled h.course.stage) (first_over at 
         → ((c : ℕ) (y : AskedConnection) → slice_get (with_turn at h ∷ hs) c ≡ Some y
         → TurnedHost at (i + c) (turn_tasks at i h.course) (h ∷ hs) c y)
         → (c : ℕ) (y : AskedConnection) → slice_get (cond b (h ∷ with_next_turn at hs) (with_turn at h ∷ hs)) c ≡ Some y
-        → TurnedHost at (i + c) (cond b (next_turn_tasks at (i + 1) (courses_of hs)) (turn_tasks at i h.course)) (h ∷ hs) c y
+        → TurnedHost at (i + c) (cond b (next_turn_tasks at (i + 1) (courses_of hs)) (turn_tasks at i h.course))
+        (h ∷ hs) c y
     by true over turned = over
     by false over turned = turned
 
@@ -129,7 +143,7 @@ turned_course : (at : ℕ) (h : AskedConnection) → (with_turn at h).course ≡
 turned_course at h = by h.course.wanted
   where
     by : (b : Bool)
-        → (cond b h (record { course = step (event at signals.Turn) h.course; events = h.events; tasks = h.tasks ++ tasks_of (event at signals.Turn) h.course })).course
+        → (cond b h (turned_host at h)).course
         ≡ cond b h.course (step (event at signals.Turn) h.course)
     by true = refl
     by false = refl
@@ -158,7 +172,8 @@ turned_size at (h ∷ hs) = by (is_settled h.course.stage) (turned_size at hs)
 module _ (at : ℕ) (old new : Asking) (t : AfterTurns at old.clock new.clock) (meta : new.meta ≡ old.meta)
     (unsent : new.unsent ≡ old.unsent) (i : Inquiry) (hosts : List AskedConnection) (o : Holds i hosts old)
   where
-    still_unsent : (c : ℕ) (h : AskedConnection) → slice_get hosts c ≡ Some h → (out : List ℕ) × (given h.events ≡ out ++ unsent_at new c)
+    still_unsent : (c : ℕ) (h : AskedConnection) → slice_get hosts c ≡ Some h → (out : List ℕ)
+        × (given h.events ≡ out ++ unsent_at new c)
     still_unsent c h get =
         let u = o.unsent c h get in (u.0, u.1 ∙ ap (λ b. u.0 ++ octets_in (slice_get b.items c)) (sym unsent))
 

@@ -1,8 +1,6 @@
 -- All connections of an inquiry, after a history of reports.
-use Rattle.std.specs.Prelude.{◌≡◌, ℕ, zero, suc, ◌+◌, nat_lt, ◌&&◌, max, Bool, true, false, if◌then◌else◌, List, [], ◌∷◌, ◌++◌, map, filter, ◌==◌, not, length, slice_get, slice_set, Option, None, Some}
+use Rattle.std.specs.Prelude.{◌≡◌, ℕ, max, Bool, true, false, if◌then◌else◌, List, [], ◌∷◌, ◌++◌, map, filter, ◌==◌, not, length, slice_get, slice_set, Option, None, Some}
 use Rattle.zoom_questions.specs.declared.question.Question.{Question}
-use Rattle.zoom_questions.specs.declared.question.MetaSettings.{MetaSettings}
-use Rattle.zoom_pool.specs.Transcripts as pool
 use Rattle.zoom_pool.specs.Transcripts.{given}
 use Rattle.zoom_pool.specs.History.{History, events_on}
 use Rattle.zoom_pool.specs.Metas.{MetaAfter}
@@ -12,19 +10,17 @@ use Rattle.zoom_clock.specs.declared.action.Task.TheVariants.{Send}
 use Rattle.zoom_clock.specs.declared.clock.Clock.{Clock}
 use Rattle.zoom_clock.specs.Actions.{for_connection, all_for}
 use Rattle.zoom_clock.specs.Clocks.{IsOrderly, IsLeastWake}
-use Rattle.zoom_clock.specs.Stages.{first_ruling}
 use Rattle.zoom_clock.specs.declared.signal.Signal.{Signal}
 use Rattle.zoom_clock.specs.declared.signal.Signal.TheVariants as signals
 use Rattle.zoom_clock.specs.Courses.{event, is_settled, step, tasks_of}
 use Rattle.zoom_asking.specs.declared.asking.Asking.{Asking}
-use Rattle.zoom_asking.specs.declared.inquiry.AskedHost.{AskedHost}
 use Rattle.zoom_asking.specs.declared.inquiry.Manner.{Manner}
 use Rattle.zoom_asking.specs.declared.inquiry.Manner.TheVariants as manners
 use Rattle.zoom_asking.specs.Buffers.{octets_in}
 use Rattle.zoom_asking.specs.Talks.{Relation}
 use Rattle.zoom_asking.specs.Steps.{IsExtended}
-use Rattle.zoom_asking.specs.Inquiries.{Inquiry, addresses_of, is_at_once, Entry, Event, Reported, Passed, GivenUp, own_event, passed_in}
-use Rattle.zoom_asking.specs.Hosts.{AskedConnection, IsNoted, IsFed, IsTold, course_of, first_host, new_sends}
+use Rattle.zoom_asking.specs.Inquiries.{Inquiry, is_at_once, Entry, Event, Reported, Passed, GivenUp, own_event, passed_in}
+use Rattle.zoom_asking.specs.Hosts.{AskedConnection, IsNoted, IsFed, IsTold, first_host, new_sends}
 
 -- what an entry tells of a connection, if anything
 abbrev pub IsToldIf : Inquiry → Question → Option Event → AskedConnection → AskedConnection → Type 0
@@ -152,30 +148,6 @@ IsOneFed c at piece old new =
 abbrev pub HasTurned : ℕ → Asking → Asking → Type 0
 HasTurned at old new =
     (i : Inquiry) (hosts : List AskedConnection) → Holds i hosts old → Holds i (after_turns i.manner at hosts) new
-
--- ---- the start
-
--- a connection before its first closing
-abbrev pub fresh_host : Inquiry → Option AskedHost → AskedConnection
-fresh_host i host = record {
-  course = course_of i host;
-  events = [];
-  tasks = (first_ruling (addresses_of host) i.start).tasks;
-}
-
--- the first of the connections that are over at the start were closed
-abbrev pub begun_to : Inquiry → ℕ → List (Option AskedHost) → List AskedConnection
-begun_to i n [] = []
-begun_to i zero (host ∷ hosts) = fresh_host i host ∷ begun_to i zero hosts
-begun_to i (suc n) (host ∷ hosts) = first_host i host ∷ begun_to i n hosts
-
--- before and after: the connections that are over at the start were closed
-abbrev pub HasBegun : Asking → Asking → Type 0
-HasBegun old new = (i : Inquiry) → Holds i (begun_to i 0 i.hosts) old → Holds i (map (first_host i) i.hosts) new
-
--- the same of one connection
-abbrev pub HasBegunAt : ℕ → Asking → Asking → Type 0
-HasBegunAt c old new = (i : Inquiry) → Holds i (begun_to i c i.hosts) old → Holds i (begun_to i (c + 1) i.hosts) new
 
 -- ---- what a caller asks
 

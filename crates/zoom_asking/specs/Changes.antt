@@ -1,8 +1,7 @@
 -- What a signal changed.
 use Rattle.std.specs.Prelude.{Bool, Option, Some, None}
-use Rattle.zoom_clock.specs.declared.signal.Ending.{Ending}
 use Rattle.zoom_clock.specs.declared.stage.Stage.{Stage}
-use Rattle.zoom_clock.specs.declared.stage.Stage.TheVariants.{NotChosen, Connecting, Talking, Over}
+use Rattle.zoom_clock.specs.declared.stage.Stage.TheVariants.{NotChosen, Resolving, Connecting, Talking, Over}
 use Rattle.zoom_asking.specs.declared.change.Change.{Change}
 use Rattle.zoom_asking.specs.declared.change.Change.TheVariants as changes
 use Rattle.zoom_asking.specs.declared.change.Kind.{Kind}
@@ -11,6 +10,7 @@ use Rattle.zoom_asking.specs.declared.change.Kind.TheVariants as kinds
 -- the kind of a stage
 abbrev pub kind_of : Stage → Kind
 kind_of NotChosen = kinds.Settled
+kind_of Resolving = kinds.Connecting
 kind_of (Connecting a) = kinds.Connecting
 kind_of (Talking t) = kinds.Talking
 kind_of (Over ending) = kinds.Settled
@@ -30,8 +30,3 @@ change_between old new = change_of (kind_of old) new
 abbrev pub lost_of : Stage → Option Bool
 lost_of (Talking t) = Some t.lost
 lost_of _ = None
-
--- how a connection has ended, if it has
-abbrev pub ending_of : Stage → Option Ending
-ending_of (Over ending) = Some ending
-ending_of _ = None

@@ -1,5 +1,5 @@
 -- What became of one connection, as a function of what was told of it (Z39.50-2003, 3.2).
-use Rattle.std.specs.Prelude.{◌≡◌, ℕ, nat_lt, Bool, false, not, ◌&&◌, if◌then◌else◌, List, [], ◌∷◌, ◌++◌, length, Option}
+use Rattle.std.specs.Prelude.{◌≡◌, ℕ, nat_lt, Bool, false, not, ◌&&◌, if◌then◌else◌, List, [], ◌∷◌, ◌++◌, length, Option, is_some}
 use Rattle.zoom_questions.specs.declared.question.Question.{Question}
 use Rattle.zoom_questions.specs.declared.question.MetaSettings.{MetaSettings}
 use Rattle.zoom_pool.specs.Transcripts as pool
@@ -10,15 +10,14 @@ use Rattle.zoom_clock.specs.declared.signal.Signal.{Signal}
 use Rattle.zoom_clock.specs.declared.signal.Signal.TheVariants as signals
 use Rattle.zoom_clock.specs.declared.signal.Condition.{Condition}
 use Rattle.zoom_clock.specs.declared.stage.Stage.{Stage}
-use Rattle.zoom_clock.specs.declared.stage.Stage.TheVariants.{Talking, Over}
+use Rattle.zoom_clock.specs.declared.stage.Stage.TheVariants.{Talking}
 use Rattle.zoom_clock.specs.Courses.{event, step, tasks_of, first_course}
-use Rattle.zoom_clock.specs.Stages.{first_ruling}
 use Rattle.zoom_asking.specs.declared.inquiry.AskedHost.{AskedHost}
 use Rattle.zoom_asking.specs.declared.change.Change.{Change}
 use Rattle.zoom_asking.specs.declared.change.Change.TheVariants as changes
 use Rattle.zoom_asking.specs.Changes.{change_between}
-use Rattle.zoom_asking.specs.Inquiries.{Inquiry, Told, Came, Noted, Event, is_at_once, limits_of, addresses_of}
-use Rattle.zoom_asking.specs.Talks.{IsDriven, IsHeard, IsCondition, IsClosed, closing}
+use Rattle.zoom_asking.specs.Inquiries.{Inquiry, Told, Came, Noted, Event, is_at_once, limits_of}
+use Rattle.zoom_asking.specs.Talks.{IsDriven, IsHeard, IsCondition, IsClosed}
 
 -- One connection: its course; its events, newest first; and all that was to be done for it, the first thing first.
 pub record AskedConnection : Type 0 where
@@ -75,21 +74,17 @@ abbrev pub IsTold : MetaSettings → Question → ℕ → Told → AskedConnecti
 IsTold s question at (Came piece) old new = IsFed s question at piece old.course.stage old new
 IsTold s question at (Noted what) old new = IsNoted s question at what old.events old new
 
--- the events of a connection at the start: if its host has no address, it could not be reached
-abbrev pub first_events : Stage → List pool.Event
-first_events (Over ending) = closing ending []
-first_events _ = []
-
+-- the course of a connection at the start
 abbrev pub course_of : Inquiry → Option AskedHost → Course
 course_of i host =
-    first_course (limits_of i.manner i.total host) (addresses_of host) i.start (is_at_once i.manner)
+    first_course (limits_of i.manner i.total host) (is_some host) i.start (is_at_once i.manner)
 
 -- a connection at the start
 abbrev pub first_host : Inquiry → Option AskedHost → AskedConnection
 first_host i host = record {
   course = course_of i host;
-  events = first_events (course_of i host).stage;
-  tasks = (first_ruling (addresses_of host) i.start).tasks;
+  events = [];
+  tasks = [];
 }
 
 -- the connection after this was told of it, newest first

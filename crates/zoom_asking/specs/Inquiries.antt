@@ -1,5 +1,5 @@
 -- What is asked of whom, and what was reported.
-use Rattle.std.specs.Prelude.{ℕ, ◌==◌, max, Bool, true, false, if◌then◌else◌, List, [], ◌∷◌, ◌++◌, Option, None, Some, option_to_list}
+use Rattle.std.specs.Prelude.{ℕ, ◌==◌, max, Bool, true, false, if◌then◌else◌, List, [], ◌∷◌, ◌++◌, Option, None, Some, is_some, option_to_list}
 use Rattle.zoom_questions.specs.declared.question.Question.{Question}
 use Rattle.zoom_questions.specs.declared.question.MetaSettings.{MetaSettings}
 use Rattle.zoom_clock.specs.declared.limits.Limits.{Limits}
@@ -46,18 +46,14 @@ limits_for manner total host = record {
 abbrev pub no_limits : Limits
 no_limits = record { connect = 0; patience = 0; total = None; pieces = None }
 
--- how long to wait for a connection, and how many addresses its host has
+-- how long to wait for a connection
 abbrev pub limits_of : Manner → Option ℕ → Option AskedHost → Limits
 limits_of manner total None = no_limits
 limits_of manner total (Some host) = limits_for manner total host
 
-abbrev pub addresses_of : Option AskedHost → Option ℕ
-addresses_of None = None
-addresses_of (Some host) = Some host.addresses
-
 -- how a connection is to be asked
 abbrev pub plan_of : Manner → Option ℕ → Option AskedHost → Plan
-plan_of manner total host = record { limits = limits_of manner total host; addresses = addresses_of host }
+plan_of manner total host = record { limits = limits_of manner total host; chosen = is_some host }
 
 -- the inquiry of these parts
 abbrev pub inquiry : List Question → MetaSettings → List (Option AskedHost) → Manner → Option ℕ → ℕ → Inquiry
@@ -79,6 +75,7 @@ pub data Told : Type 0 where
 
 -- the signal of a report
 abbrev pub signal_of : Report → Signal
+signal_of (reports.Resolved addresses) = signals.Resolved addresses
 signal_of (reports.Connected k) = signals.Connected k
 signal_of (reports.Unreachable k) = signals.Unreachable k
 signal_of (reports.NoSocket k) = signals.NoSocket k

@@ -1,5 +1,5 @@
 -- Laws of every history of an inquiry.
-use Rattle.std.specs.Prelude.{◌≡◌, ◌⊎◌, ℕ, Bool, true, false, List, [], ◌∷◌, filter, slice_get, Option, None, Some}
+use Rattle.std.specs.Prelude.{◌≡◌, ◌⊎◌, ℕ, Bool, true, false, List, [], ◌∷◌, filter, length, slice_get, Option, None, Some, is_some}
 use Rattle.zoom_questions.specs.declared.question.Question.{Question}
 use Rattle.zoom_questions.specs.declared.question.MetaSettings.{MetaSettings}
 use Rattle.zoom_pool.specs.States.{is_stopped}
@@ -7,7 +7,8 @@ use Rattle.zoom_pool.specs.Transcripts as pool
 use Rattle.zoom_pool.specs.Transcripts.{Transcript, IsTranscript, past_of, state_at}
 use Rattle.zoom_pool.specs.Driving.{events_of}
 use Rattle.zoom_pool.specs.Steering.{Errand, errand_of}
-use Rattle.zoom_pool.specs.Metas.{settings_of}
+use Rattle.zoom_pool.specs.History.{History, events_on}
+use Rattle.zoom_pool.specs.Metas.{MetaLinks, MetaAfter, settings_of}
 use Rattle.zoom_clock.specs.declared.signal.Ending.{Ending}
 use Rattle.zoom_clock.specs.declared.signal.Signal.{Signal}
 use Rattle.zoom_clock.specs.declared.signal.Signal.TheVariants as signals
@@ -18,9 +19,10 @@ use Rattle.zoom_clock.specs.Courses.{course_after}
 use Rattle.zoom_asking.specs.declared.asking.Asking.{Asking}
 use Rattle.zoom_asking.specs.declared.inquiry.AskedHost.{AskedHost}
 use Rattle.zoom_asking.specs.declared.inquiry.TheConstants.{MOST_PIECES}
-use Rattle.zoom_asking.specs.Inquiries.{Inquiry, Entry, Event, Told, Came, Noted, is_at_once, limits_of, addresses_of, own}
+use Rattle.zoom_asking.specs.Inquiries.{Inquiry, Entry, GivenUp, Event, Told, Came, Noted, is_at_once, limits_of, own}
 use Rattle.zoom_asking.specs.Hosts.{AskedConnection, AskedAfter}
-use Rattle.zoom_asking.specs.Askings.{AllAskedAfter, AskingAfter}
+use Rattle.zoom_asking.specs.Askings.{AllAskedAfter, AskingAfter, AreOver}
+use Rattle.zoom_asking.specs.Asked.{IsAskedBy}
 
 -- what is asked on connection c, and of whom
 pub record AskedOn (i : Inquiry) (c : ℕ) : Type 0 where
@@ -70,7 +72,7 @@ CourseLaw =
     (i : Inquiry) (host : Option AskedHost) (question : Question) (es : List Event) (h : AskedConnection)
     → AskedAfter i host question es h
     → (xs : List clock.Event) × AreSignals es xs
-    × (h.course ≡ course_after (limits_of i.manner i.total host) (addresses_of host) i.start (is_at_once i.manner) xs)
+    × (h.course ≡ course_after (limits_of i.manner i.total host) (is_some host) i.start (is_at_once i.manner) xs)
 
 -- ---- hosts do not touch one another
 
@@ -168,6 +170,24 @@ pub record AskedLaws : Type 0 where
       (asks : AskedOn i c)
       → asks.host ≡ None → AllAskedAfter i history hosts → slice_get hosts c ≡ Some h
       → (h.events ≡ []) × (h.course.stage ≡ NotChosen)
+
+-- a connection that was chosen is Closed or Failed; one that was not chosen has no events
+abbrev pub HasEndedIf : Option AskedHost → MetaSettings → List pool.Event → Type 0
+HasEndedIf None s events = events ≡ []
+HasEndedIf (Some host) s events = HasEnded s events
+
+-- once each connection is over, some history of the pool left what is known, and in it each has ended so
+abbrev pub AskedEndLaw : Type 0
+AskedEndLaw =
+    (i : Inquiry) (history : List Entry) (meta : MetaLinks) → IsAskedBy i history meta
+    → (h : History) × MetaAfter i.questions i.settings h meta
+    × ((c : ℕ) (asks : AskedOn i c) → HasEndedIf asks.host i.settings (events_on c h))
+
+-- after all were given up, each connection is over, or was not chosen, if each has a question
+abbrev pub GivenUpLaw : Type 0
+GivenUpLaw =
+    (i : Inquiry) (history : List Entry) (hosts : List AskedConnection) (at : ℕ)
+    → length hosts ≡ length i.questions → AllAskedAfter i (GivenUp at ∷ history) hosts → AreOver true hosts
 
 -- in order, a connection may have a million pieces
 abbrev pub PiecesLaw : Type 0

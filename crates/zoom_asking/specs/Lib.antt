@@ -5,4 +5,5 @@ pub mod Steps
 pub mod Buffers
 pub mod Hosts
 pub mod Askings
+pub mod Asked
 pub mod Laws

@@ -3,7 +3,7 @@
 ghost use Rattle.std.specs.Prelude.{◌≡◌, ◌&&◌, not, nat_lt, length, IfOk};
 ghost use Rattle.zoom_asking.specs.Buffers.{AreEmpty};
 
-use crate::change::{Change, change_of, ending_of, kind_of, lost_of};
+use crate::change::{Change, change_of, kind_of, lost_of};
 use crate::inquiry::{AskedHost, Manner, Report, is_in_order, plans_of, signal_of};
 use crate::talk::{close, condition, drive, hear};
 use std::alloc::{AllocError, Global};
@@ -37,10 +37,11 @@ impl Asking {
     ghost use Rattle.zoom_asking.specs.Steps.{IsConditionAt};
     ghost use Rattle.zoom_asking.specs.Talks.{IsDriven, IsHeard, IsClosed};
     ghost use Rattle.zoom_asking.specs.Hosts.{AfterChange};
-    ghost use Rattle.zoom_asking.specs.Askings.{AskingAfter, IsEntered, KeepsHistories, IsOneTold, IsOneFed, HasTurned, IsTalkedOn, IsSendPut, HasBegun, HasBegunAt, IsWakeAt, IsOverAt, unsent_at};
+    ghost use Rattle.zoom_asking.specs.Askings.{AskingAfter, IsEntered, KeepsHistories, IsOneTold, IsOneFed, HasTurned, IsTalkedOn, IsSendPut, IsWakeAt, IsOverAt, unsent_at};
 
-    /// Begins to ask, from `now` on: a question and a host for each connection, or `None` if it is not chosen. `total`
-    /// is how long all may take, if that has a limit. Returns `AllocError` if no memory is found.
+    /// Begins to ask, from `now` on: a question and a host for each connection, or `None` if it is not chosen. Of each
+    /// host, `Report::Resolved` tells how many addresses it has. `total` is how long all may take, if that has a limit.
+    /// Returns `AllocError` if no memory is found.
     pub fn new(
         alloc: Global,
         questions: Seq<Question>,
@@ -66,34 +67,8 @@ impl Asking {
             clock,
             unsent,
         };
-        asking.begin()?;
         asking.take_turns(now)?;
         Ok(asking)
-    }
-
-    /// Closes the connections that are over at the start.
-    fn begin(&mut self) -> Result<(), AllocError>
-        ensures begun { OnOk result (HasBegun self.old self.new) }
-        ensures passed { OnOk result (self.new.clock.passed ≡ self.old.clock.passed) }
-        ensures size { length self.new.meta.pool.connections ≡ length self.old.meta.pool.connections }
-    {
-        for c in 0..self.connections() {
-            self.begin_one(c as u32)?;
-        }
-        Ok(())
-    }
-
-    /// Closes a connection if it is over at the start.
-    fn begin_one(&mut self, c: u32) -> Result<(), AllocError>
-        requires { c < length self.old.meta.pool.connections }
-        ensures begun { OnOk result (HasBegunAt c self.old self.new) }
-        ensures passed { OnOk result (self.new.clock.passed ≡ self.old.clock.passed) }
-        ensures size { length self.new.meta.pool.connections ≡ length self.old.meta.pool.connections }
-    {
-        match ending_of(&self.clock.course(c).stage) {
-            None => Ok(()),
-            Some(ending) => self.end(c, ending),
-        }
     }
 
     /// What is to be done next, the oldest first. Each action is handed out once. `None` if nothing is to be done. It

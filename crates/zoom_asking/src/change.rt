@@ -1,12 +1,13 @@
 //! What a signal changed.
 ghost use Rattle.std.specs.Prelude.{◌≡◌};
-ghost use Rattle.zoom_asking.specs.Changes.{kind_of, change_of, lost_of, ending_of};
+ghost use Rattle.zoom_asking.specs.Changes.{kind_of, change_of, lost_of};
 
 use zoom_clock::{Ending, Stage};
 
 /// What kind of stage a connection was at.
 #[derive(Clone, Copy, Debug, PartialEq, Eq)]
 pub(crate) enum Kind {
+    /// It has not connected, and is not over.
     Connecting,
     Talking,
     /// It was over, or not chosen.
@@ -29,7 +30,7 @@ pub(crate) fn kind_of(stage: &Stage) -> Kind
     ensures { result ≡ kind_of stage.now }
 {
     match stage {
-        Stage::Connecting(_) => Kind::Connecting,
+        Stage::Resolving | Stage::Connecting(_) => Kind::Connecting,
         Stage::Talking(_) => Kind::Talking,
         Stage::NotChosen | Stage::Over(_) => Kind::Settled,
     }
@@ -58,16 +59,6 @@ pub(crate) fn lost_of(stage: &Stage) -> Option<bool>
 {
     match stage {
         Stage::Talking(talk) => Some(talk.lost),
-        _ => None,
-    }
-}
-
-/// How a connection has ended, if it has.
-pub(crate) fn ending_of(stage: &Stage) -> Option<Ending>
-    ensures { result ≡ ending_of stage.now }
-{
-    match stage {
-        Stage::Over(ending) => Some(*ending),
         _ => None,
     }
 }

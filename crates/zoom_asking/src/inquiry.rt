@@ -11,9 +11,7 @@ pub(crate) const MOST_PIECES: u32 = 1_000_000;
 /// A host to ask, and how long to wait for it. Times are nanoseconds.
 #[derive(Clone, Copy, Debug, PartialEq, Eq)]
 pub struct AskedHost {
-    /// How many addresses its name has. With none it cannot be reached.
-    pub addresses: usize,
-    /// How long it may take until it has connected, from the start on.
+    /// How long it may take to connect, from when its name was resolved.
     pub connect: u64,
     /// How long it may be silent.
     pub patience: u64,
@@ -31,6 +29,8 @@ pub enum Manner {
 /// What happened on a connection. `Asking::octets` reports octets that came.
 #[derive(Clone, Copy, Debug, PartialEq, Eq)]
 pub enum Report {
+    /// The name of the host was resolved to this many addresses. With none it cannot be reached.
+    Resolved(usize),
     /// The attempt of this number to connect succeeded.
     Connected(usize),
     /// The attempt of this number to connect failed.
@@ -52,6 +52,7 @@ pub(crate) fn signal_of(report: Report) -> Signal
     ensures { result ≡ signal_of report }
 {
     match report {
+        Report::Resolved(addresses) => Signal::Resolved(addresses),
         Report::Connected(k) => Signal::Connected(k),
         Report::Unreachable(k) => Signal::Unreachable(k),
         Report::NoSocket(k) => Signal::NoSocket(k),
@@ -94,7 +95,7 @@ pub(crate) fn plan_of(manner: Manner, total: Option<u64>, host: Option<AskedHost
                 total: None,
                 pieces: None,
             },
-            addresses: None,
+            chosen: false,
         },
         Some(host) => Plan {
             limits: Limits {
@@ -103,7 +104,7 @@ pub(crate) fn plan_of(manner: Manner, total: Option<u64>, host: Option<AskedHost
                 total,
                 pieces: most_pieces(manner),
             },
-            addresses: Some(host.addresses),
+            chosen: true,
         },
     }
 }

@@ -1,5 +1,5 @@
 //! Laws of every history of an inquiry. Each is the contract of a function that does nothing.
-ghost use Rattle.zoom_asking.specs.Laws.{OwnLaw, CourseLaw, IsolationLaw, EndLaws, AskedLaws, PiecesLaw};
+ghost use Rattle.zoom_asking.specs.Laws.{OwnLaw, CourseLaw, IsolationLaw, EndLaws, AskedLaws, AskedEndLaw, GivenUpLaw, PiecesLaw};
 
 use zoom_pool::driving::driven_laws;
 use zoom_pool::laws::{one_input, one_transcript};
@@ -40,6 +40,18 @@ pub fn asked_laws()
 {
     end_laws();
 }
+
+/// Once each connection is over, those that were chosen are Closed or Failed, and the others have no events.
+pub fn asked_end_law()
+    ensures { AskedEndLaw }
+{
+    asked_laws();
+}
+
+/// After all were given up, each connection is over.
+pub fn given_up_law()
+    ensures { GivenUpLaw }
+{}
 
 /// In order, a connection stops for `Turns` after 1,000,000 pieces.
 pub fn pieces_law()

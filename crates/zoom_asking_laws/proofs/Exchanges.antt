@@ -170,7 +170,8 @@ module _ (laws : Laws) (s : MetaSettings) (question : Question) (holdings : Hold
         → Exchanged old p → is_stopped (state_at p) ≡ false → (q : Transcript) × Exchanged new q
     heard old new p piece rest takes r came e on =
         let later : Transcript = record p { stream = p.stream ++ piece } in
-        let is : after_feed p piece ≡ later = fed_as p piece (is_stopped (state_at p)) p.ended on e.under.sound.goes_on in
+        let is : after_feed p piece ≡ later =
+        fed_as p piece (is_stopped (state_at p)) p.ended on e.under.sound.goes_on in
         let there : Underway (Fed piece ∷ old) later = record {
           sound = subst (λ z. IsSoundExchange holdings (settings_of s) (Fed piece ∷ old) z xs end) is
               (laws.exchange.fed holdings (settings_of s) old p xs end piece rest e.under.sound

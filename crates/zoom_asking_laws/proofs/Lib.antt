@@ -1,5 +1,6 @@
 pub mod TakeSteps
 pub mod Readings
 pub mod Exchanges
+pub mod Closings
 pub mod Stages
 pub mod Serving

@@ -18,7 +18,7 @@ use Rattle.zoom_clock.specs.declared.signal.Ending.{Ending}
 use Rattle.zoom_clock.specs.declared.signal.Ending.TheVariants as endings
 use Rattle.zoom_clock.specs.declared.signal.Signal.{Signal}
 use Rattle.zoom_clock.specs.declared.stage.Stage.{Stage}
-use Rattle.zoom_clock.specs.declared.stage.Stage.TheVariants.{NotChosen, Connecting, Talking, Over}
+use Rattle.zoom_clock.specs.declared.stage.Stage.TheVariants.{NotChosen, Resolving, Connecting, Talking, Over}
 use Rattle.zoom_asking.specs.Changes.{change_between}
 use Rattle.zoom_asking.specs.Inquiries.{Told, Came, Noted}
 use Rattle.zoom_asking.specs.Talks.{IsDriven, AreTaken, none, last, one, closing}
@@ -105,17 +105,24 @@ module _ (s : MetaSettings) (question : Question) where
   abbrev Brings : Stage → Stage → List Event → List Event → Type 0
   Brings stage next old new = AfterChange (change_between stage next) s question old new
 
+  -- of a connection that has not connected
+  read_early : (next : Stage) (old new : List Event) → Brings Resolving next old new → AreRead new → AreRead old
+  read_early NotChosen old new same r = subst AreRead same r
+  read_early Resolving old new same r = subst AreRead same r
+  read_early (Connecting a) old new same r = subst AreRead same r
+  read_early (Talking t) old new drives r = read_driven old new drives r
+  read_early (Over ending) old new is r = read_closed ending old (subst AreRead is r)
+
   read_changed : (stage next : Stage) (old new : List Event) → Brings stage next old new → AreRead new → AreRead old
   read_changed NotChosen next old new same r = subst AreRead same r
-  read_changed (Over ending) next old new same r = subst AreRead same r
-  read_changed (Connecting a) NotChosen old new same r = subst AreRead same r
-  read_changed (Connecting a) (Connecting b) old new same r = subst AreRead same r
-  read_changed (Connecting a) (Talking t) old new drives r = read_driven old new drives r
-  read_changed (Connecting a) (Over ending) old new is r = read_closed ending old (subst AreRead is r)
+  read_changed Resolving next old new brings r = read_early next old new brings r
+  read_changed (Connecting a) next old new brings r = read_early next old new brings r
   read_changed (Talking t) NotChosen old new same r = subst AreRead same r
+  read_changed (Talking t) Resolving old new same r = subst AreRead same r
   read_changed (Talking t) (Connecting b) old new same r = subst AreRead same r
   read_changed (Talking t) (Talking u) old new same r = subst AreRead same r
   read_changed (Talking t) (Over ending) old new is r = read_closed ending old (subst AreRead is r)
+  read_changed (Over ending) next old new same r = subst AreRead same r
 
   pub read_noted : (at : ℕ) (what : Signal) (events : List Event) (old new : AskedConnection)
       → IsNoted s question at what events old new → AreRead new.events → AreRead events
@@ -128,6 +135,7 @@ module _ (s : MetaSettings) (question : Question) where
       read_before (Fed piece) old.events (read_taken (Fed piece ∷ old.events) h.heard h.hears
       (read_noted at _ h.heard old new h.noted r))
   read_fed at piece NotChosen old new same r = subst (λ (z : AskedConnection). AreRead z.events) same r
+  read_fed at piece Resolving old new same r = subst (λ (z : AskedConnection). AreRead z.events) same r
   read_fed at piece (Connecting a) old new same r = subst (λ (z : AskedConnection). AreRead z.events) same r
   read_fed at piece (Over ending) old new same r = subst (λ (z : AskedConnection). AreRead z.events) same r
 

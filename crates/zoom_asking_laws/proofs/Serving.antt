@@ -1,37 +1,37 @@
 -- Each exchange of an inquiry's connection with a target alone is sound.
-use Rattle.std.proofs.Common.{◌≡◌, ◌∙◌, sym, ap, subst, ℕ, ◌<◌, Bool, true, false, List, [], ◌∷◌, ◌++◌, slice_get, Option, None, Some, refl, append_assoc, append-nil, true≢false, zero, suc}
+use Rattle.std.proofs.Common.{◌≡◌, ◌∙◌, sym, ap, subst, ℕ, ◌<◌, Bool, true, false, List, [], ◌∷◌, ◌++◌, slice_get, Option, Some, refl, append_assoc, append-nil, true≢false, is_some}
 use Rattle.std.proofs.lemmas.List.{append_cancel_left}
 use Rattle.std.proofs.lemmas.Option.{slice_get_within}
 use Rattle.zoom_questions.specs.declared.question.Question.{Question}
 use Rattle.zoom_questions.specs.declared.question.MetaSettings.{MetaSettings}
 use Rattle.zoom_pool.specs.Transcripts as pool
 use Rattle.zoom_pool.specs.Transcripts.{Transcript, IsTranscript, empty_transcript, state_at, past_of, given, fed, sent}
-use Rattle.zoom_pool.specs.States.{is_stopped}
 use Rattle.zoom_pool.specs.History.{History, events_on}
 use Rattle.zoom_pool.specs.Metas.{MetaLinks, MetaAfter, settings_of}
 use Rattle.zoom_pool.specs.Hosts.{HostState as ServingEnd, HostAfter as ServingEndAfter, Holdings, HostEvent, HostFed, Released, HostHandedOut, handed_out}
 use Rattle.zoom_pool.proofs.Metas.{slice_some}
 use Rattle.zoom_laws.specs.Catalogue.{CatalogueLaws}
 use Rattle.zoom_laws.specs.Exchange.{IsSoundExchange, fed_to}
-use Rattle.zoom_clock.specs.declared.signal.Ending.TheVariants as endings
 use Rattle.zoom_clock.specs.declared.stage.Stage.{Stage}
-use Rattle.zoom_clock.specs.declared.stage.Stage.TheVariants.{NotChosen, Connecting, Talking, Over}
-use Rattle.zoom_clock.specs.Stages.{first_ruling}
+use Rattle.zoom_clock.specs.declared.stage.Stage.TheVariants.{NotChosen, Resolving, Connecting, Talking, Over}
+use Rattle.zoom_clock.specs.Stages.{first_stage}
 use Rattle.zoom_clock.specs.declared.signal.Signal.TheVariants as signals
 use Rattle.zoom_asking.specs.declared.asking.Asking.{Asking}
 use Rattle.zoom_asking.specs.declared.inquiry.AskedHost.{AskedHost}
-use Rattle.zoom_asking.specs.Inquiries.{Inquiry, Entry, Event, Came, Noted, addresses_of}
-use Rattle.zoom_asking.specs.Hosts.{AskedConnection, IsFed, first_events}
+use Rattle.zoom_asking.specs.Inquiries.{Inquiry, Entry, Event, Came, Noted}
+use Rattle.zoom_asking.specs.Hosts.{AskedConnection, IsFed}
 use Rattle.zoom_asking.specs.Askings.{AskingAfter}
-use Rattle.zoom_asking_laws.specs.Served.{IsServed, begins, feeds, releases, hands, comes, tells, AnsweredLaw, DeliveredLaw, ServedLaws}
+use Rattle.zoom_asking_laws.specs.Served.{IsServed, begins, feeds, releases, hands, comes, tells, AnsweredLaw, ClosedLaw, DeliveredLaw, ServedLaws}
 use Rattle.zoom_asking_laws.proofs.Readings.{AreReadIn, read_noted, read_told}
 use Rattle.zoom_asking_laws.proofs.Exchanges.{IsUnderway, Laws}
-use Rattle.zoom_asking_laws.proofs.Stages.{IsQuiet, IsAt, FitsStage, Fits, noted_fits, heard_fits}
+use Rattle.zoom_asking_laws.proofs.Closings.{IsAnswered, IsClosedAndAnswered}
+use Rattle.zoom_asking_laws.proofs.Stages.{IsQuiet, GoesOn, FitsStage, Fits, stage_answered, noted_fits, heard_fits}
 
 -- ---- the target did something
 
 -- each sound exchange with these events, of which all was handed out, stays sound
-abbrev Stays : MetaSettings → Holdings → List pool.Event → List HostEvent → ServingEnd → List HostEvent → ServingEnd → Type 0
+abbrev Stays
+    : MetaSettings → Holdings → List pool.Event → List HostEvent → ServingEnd → List HostEvent → ServingEnd → Type 0
 Stays s holdings events xs end ys later =
     (p : Transcript) → given events ≡ sent (past_of p) → IsSoundExchange holdings (settings_of s) events p xs end
     → IsSoundExchange holdings (settings_of s) events p ys later
@@ -46,29 +46,25 @@ module _ (s : MetaSettings) (question : Question) (holdings : Holdings) (events 
     moved_quiet : IsQuiet s question holdings xs end events → IsQuiet s question holdings ys later events
     moved_quiet quiet = (quiet.0, moved_under (empty_transcript (settings_of s)) (ap given quiet.0) quiet.1)
 
-    moved_at : (over : Bool) → IsAt s question holdings xs end over events → IsAt s question holdings ys later over events
-    moved_at over at = (
-      at.0,
+    moved_going : GoesOn s question holdings xs end events → GoesOn s question holdings ys later events
+    moved_going going = (
+      going.0,
       record {
-        under = moved_under at.0 at.1.gave at.1.under;
-        gave = at.1.gave;
-        idle = at.1.idle;
-        taken = at.1.taken;
+        under = moved_under going.0 going.1.gave going.1.under;
+        gave = going.1.gave;
+        idle = going.1.idle;
+        taken = going.1.taken;
       },
-      at.2,
+      going.2,
     )
 
     moved : (stage : Stage) → FitsStage s question holdings xs end stage events
         → FitsStage s question holdings ys later stage events
     moved NotChosen fits = moved_quiet fits
+    moved Resolving fits = moved_quiet fits
     moved (Connecting a) fits = moved_quiet fits
-    moved (Talking t) fits = moved_at false fits
-    moved (Over endings.Connect) fits = tt
-    moved (Over endings.Read) fits = tt
-    moved (Over endings.Write) fits = tt
-    moved (Over endings.Turns) fits = tt
-    moved (Over endings.InputEnded) fits = tt
-    moved (Over endings.Finished) fits = moved_at true fits
+    moved (Talking t) fits = moved_going fits
+    moved (Over ending) fits = fits
 
 -- the octets on their way to the target
 way_to : (events : List pool.Event) (xs : List HostEvent) (past to rest : List ℕ) → fed_to xs ++ to ≡ past
@@ -92,12 +88,10 @@ module _ (laws : Laws) (i : Inquiry) (host : Option AskedHost) (question : Quest
     },
   )
 
-  stage_first : (end : ServingEnd) (addresses : Option ℕ) (start : ℕ) → ServingEndAfter holdings [] end
-      → FitsStage i.settings question holdings [] end (first_ruling addresses start).stage
-      (first_events (first_ruling addresses start).stage)
-  stage_first end None start after = quiet_first end after
-  stage_first end (Some zero) start after = tt
-  stage_first end (Some (suc more)) start after = quiet_first end after
+  stage_first : (end : ServingEnd) (chosen : Bool) → ServingEndAfter holdings [] end
+      → FitsStage i.settings question holdings [] end (first_stage chosen) []
+  stage_first end true after = quiet_first end after
+  stage_first end false after = quiet_first end after
 
   -- ---- octets came
 
@@ -106,6 +100,7 @@ module _ (laws : Laws) (i : Inquiry) (host : Option AskedHost) (question : Quest
       → AreReadIn (settings_of i.settings) new.events → handed_out xs ≡ fed old.events ++ piece ++ rest
       → FitsNow xs end old → FitsNow xs end new
   came_fits xs end at piece rest NotChosen old new is same reads came fits = subst (FitsNow xs end) (sym same) fits
+  came_fits xs end at piece rest Resolving old new is same reads came fits = subst (FitsNow xs end) (sym same) fits
   came_fits xs end at piece rest (Connecting a) old new is same reads came fits =
       subst (FitsNow xs end) (sym same) fits
   came_fits xs end at piece rest (Over ending) old new is same reads came fits =
@@ -121,7 +116,7 @@ module _ (laws : Laws) (i : Inquiry) (host : Option AskedHost) (question : Quest
   pub served_fits : (es : List Event) (h : AskedConnection) (xs : List HostEvent) (end : ServingEnd)
       → IsServed i host question holdings es h xs end → AreReadIn (settings_of i.settings) h.events → FitsNow xs end h
   served_fits es h xs end (begins g e first after) reads =
-      subst (FitsNow [] end) (sym first) (stage_first end (addresses_of host) i.start after)
+      subst (FitsNow [] end) (sym first) (stage_first end (is_some host) after)
   served_fits es h xs end (feeds fs g ys before later piece rest served is after) reads =
       moved i.settings question holdings g.events ys (HostFed piece ∷ ys) before later
       (λ p gave sound. laws.exchange.host_fed holdings (settings_of i.settings) g.events p ys before later piece rest
@@ -130,7 +125,8 @@ module _ (laws : Laws) (i : Inquiry) (host : Option AskedHost) (question : Quest
       g.course.stage (served_fits fs g ys before served reads)
   served_fits es h xs end (releases fs g ys before later k served after) reads =
       moved i.settings question holdings g.events ys (Released k ∷ ys) before later
-      (λ p gave sound. laws.exchange.released holdings (settings_of i.settings) g.events p ys before later k sound after)
+      (λ p gave sound. laws.exchange.released holdings (settings_of i.settings) g.events p ys before later k sound
+      after)
       g.course.stage (served_fits fs g ys before served reads)
   served_fits es h xs end (hands fs g ys before later served after) reads =
       moved i.settings question holdings g.events ys (HostHandedOut before.waiting ∷ ys) before later
@@ -166,43 +162,47 @@ asking_fits laws i history asking c question host es h xs end holdings after ask
     (sent_read i.questions i.settings after.holds.pool asking.meta c question after.holds.meta asked))
 
 module _ (laws : Laws) (catalogues : CatalogueLaws) where
-  answered : AnsweredLaw
-  answered i history asking c question host es h xs end holdings p after asked there served over transcript can fits =
-      let at : IsAt i.settings question holdings xs end true h.events =
-      subst (λ z. FitsStage i.settings question holdings xs end z h.events) over
-      (asking_fits laws i history asking c question host es h xs end holdings after asked there served) in
-      let sound = at.1.under.sound in
-      let same : at.0 ≡ p = laws.transcripts (settings_of i.settings) h.events at.0 p sound.transcript transcript in
-      let mine : IsSoundExchange holdings (settings_of i.settings) h.events p xs end =
-      subst (λ z. IsSoundExchange holdings (settings_of i.settings) h.events z xs end) same sound in
-      let stopped : is_stopped (state_at p) ≡ true = subst (λ z. is_stopped (state_at z) ≡ true) same at.2 in
+  closed : ClosedLaw
+  closed i history asking c question host es h xs end holdings p after asked there served over transcript can fits =
+      let was : IsAnswered holdings p =
+      stage_answered laws i.settings question holdings xs end h.course.stage h.events
+      (asking_fits laws i history asking c question host es h xs end holdings after asked there served) p transcript
+      over in
       let events : events_on c after.holds.pool ≡ h.events = after.holds.events c h there in
       catalogues.answers i.questions i.settings after.holds.pool asking.meta c question p holdings.databases
       holdings.settings after.holds.meta asked
-      (subst (λ z. IsTranscript (settings_of i.settings) z p) (sym events) transcript)
-      (laws.exchange.ends holdings (settings_of i.settings) h.events p xs end mine stopped)
-      (laws.exchange.conversation holdings (settings_of i.settings) h.events p xs end mine).owed can fits
+      (subst (λ z. IsTranscript (settings_of i.settings) z p) (sym events) transcript) was.complete was.conversed.owed
+      can fits
+
+  -- a connection that its messages have ended is Closed
+  answered : AnsweredLaw
+  answered i history asking c question host es h xs end holdings p after asked there served over transcript can fits =
+      let ended : IsClosedAndAnswered i.settings holdings h.events =
+      subst (λ z. FitsStage i.settings question holdings xs end z h.events) over
+      (asking_fits laws i history asking c question host es h xs end holdings after asked there served) in
+      closed i history asking c question host es h xs end holdings p after asked there served (ended p transcript).0
+      transcript can fits
 
   delivered : DeliveredLaw
   delivered i history asking c question host es h xs end holdings t after asked there served to from waiting pending
       talking =
-      let at : IsAt i.settings question holdings xs end false h.events =
+      let going : GoesOn i.settings question holdings xs end h.events =
       subst (λ z. FitsStage i.settings question holdings xs end z h.events) talking
       (asking_fits laws i history asking c question host es h xs end holdings after asked there served) in
-      let p : Transcript = at.0 in
-      let e = at.1 in
+      let p : Transcript = going.0 in
+      let e = going.1 in
       let sound = e.under.sound in
       let settled = laws.exchange.rests holdings (settings_of i.settings) h.events p xs end sound
       (way_to h.events xs (sent (past_of p)) sound.to [] sound.sends e.gave (to ∙ sym (append-nil (fed_to xs))))
       (append_cancel_left p.stream sound.from []
       (sound.comes ∙ from ∙ sym e.under.stream ∙ sym (append-nil p.stream)))
-      waiting pending (e.taken at.2) in
+      waiting pending (e.taken going.2) in
       let events : events_on c after.holds.pool ≡ h.events = after.holds.events c h there in
       true≢false (sym (laws.exchange.ended i.questions i.settings after.holds.pool asking.meta c question p
       after.holds.meta asked
       (subst (λ z. IsTranscript (settings_of i.settings) z p) (sym events) sound.transcript)
-      e.idle sound.goes settled.waits settled.begun settled.closed) ∙ at.2)
+      e.idle sound.goes settled.waits settled.begun settled.closed) ∙ going.2)
 
   -- The laws of a connection and a target alone.
   pub served_of : ServedLaws
-  served_of = record { answered = answered; delivered = delivered }
+  served_of = record { answered = answered; closed = closed; delivered = delivered }

@@ -61,7 +61,8 @@ take_stream p (Rest n) = elim p.ended as (λ b. (cond b (after_stop p (truncated
     [ true ↦ refl | false ↦ refl ]
 take_stream p Nothing = elim p.ended as (λ b. (cond b (end_by p) p).stream ≡ p.stream) [ true ↦ refl | false ↦ refl ]
 
-some_result : (r : Result Taken Refused) → take_result_of_verdict r ≡ Ok steps.Nothing → ⊥
+-- An APDU that was taken has another result than `Nothing`.
+pub some_result : (r : Result Taken Refused) → take_result_of_verdict r ≡ Ok steps.Nothing → ⊥
 some_result (Ok (taken.Opened a)) e = absurd cc
 some_result (Ok (taken.Rejected a)) e = absurd cc
 some_result (Ok (taken.Answered a)) e = absurd cc

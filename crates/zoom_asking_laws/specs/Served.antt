@@ -3,7 +3,8 @@
 use Rattle.std.specs.Prelude.{◌≡◌, ◌↔◌, ℕ, List, [], ◌∷◌, ◌++◌, slice_get, Some, Contains, Option}
 use Rattle.zknow.specs.declared.fact.Fact.{Fact}
 use Rattle.zoom_questions.specs.declared.question.Question.{Question}
-use Rattle.zoom_pool.specs.Transcripts.{Transcript, IsTranscript, fed, given}
+use Rattle.zoom_pool.specs.declared.state.State.TheVariants as states
+use Rattle.zoom_pool.specs.Transcripts.{Transcript, IsTranscript, fed, given, state_at}
 use Rattle.zoom_pool.specs.History.{facts_at}
 use Rattle.zoom_pool.specs.Metas.{settings_of}
 use Rattle.zoom_pool.specs.Hosts.{HostState as ServingEnd, HostAfter as ServingEndAfter, Holdings, HostEvent, HostFed, Released, HostHandedOut, handed_out}
@@ -52,10 +53,22 @@ abbrev pub AnsweredLaw : Type 0
 AnsweredLaw =
     (i : Inquiry) (history : List Entry) (asking : Asking) (c : ℕ) (question : Question) (host : Option AskedHost)
     (es : List Event) (h : AskedConnection) (xs : List HostEvent) (end : ServingEnd) (holdings : Holdings)
-    (p : Transcript)
-    (after : AskingAfter i history asking)
+    (p : Transcript) (after : AskingAfter i history asking)
     → slice_get i.questions c ≡ Some question → slice_get after.hosts c ≡ Some h
     → IsServed i host question holdings es h xs end → h.course.stage ≡ Over endings.Finished
+    → IsTranscript (settings_of i.settings) h.events p → CanAsk question holdings.settings
+    → HasFittingRecords question holdings.databases holdings.settings
+    → (f : Fact) → Contains (facts_at c p) f ↔ Contains (catalogue c question holdings.databases holdings.settings) f
+
+-- of a connection that is Closed, exactly the facts are known that its question brings from the target, also if it took
+-- no Close in return for its own
+abbrev pub ClosedLaw : Type 0
+ClosedLaw =
+    (i : Inquiry) (history : List Entry) (asking : Asking) (c : ℕ) (question : Question) (host : Option AskedHost)
+    (es : List Event) (h : AskedConnection) (xs : List HostEvent) (end : ServingEnd) (holdings : Holdings)
+    (p : Transcript) (after : AskingAfter i history asking)
+    → slice_get i.questions c ≡ Some question → slice_get after.hosts c ≡ Some h
+    → IsServed i host question holdings es h xs end → state_at p ≡ states.Closed
     → IsTranscript (settings_of i.settings) h.events p → CanAsk question holdings.settings
     → HasFittingRecords question holdings.databases holdings.settings
     → (f : Fact) → Contains (facts_at c p) f ↔ Contains (catalogue c question holdings.databases holdings.settings) f
@@ -73,4 +86,5 @@ DeliveredLaw =
 -- a host that answers in time is answered for exactly
 pub record ServedLaws : Type 0 where
   pub answered : AnsweredLaw
+  pub closed : ClosedLaw
   pub delivered : DeliveredLaw

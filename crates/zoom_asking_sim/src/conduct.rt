@@ -109,6 +109,7 @@ impl Conduct {
     /// Notes what happened. Returns whether a caller with these sockets could see it.
     pub(crate) fn note_report(&mut self, report: Report) -> bool {
         match report {
+            Report::Resolved(_) => true,
             Report::Connected(k) => self.note_connected(k),
             Report::Unreachable(k) => self.note_attempt(k, Socket::Failed),
             Report::NoSocket(k) => self.note_attempt(k, Socket::Waiting),

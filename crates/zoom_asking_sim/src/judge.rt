@@ -30,7 +30,7 @@ fn due_to(nature: Nature) -> Due {
         | Temper::IgnoresClose => Due::All,
         Temper::Unasked => Due::Nothing,
         Temper::Silent => Due::Failed(Reason::Read),
-        Temper::Refuses | Temper::Unnamed => Due::Failed(Reason::Connect),
+        Temper::Refuses | Temper::Unnamed | Temper::Unresolved => Due::Failed(Reason::Connect),
         Temper::Trickles | Temper::Lies => Due::Fails,
         Temper::Unwritable if nature.number == 0 => Due::Failed(Reason::Write),
         Temper::Dies | Temper::Garbles | Temper::Unwritable => Due::Any,

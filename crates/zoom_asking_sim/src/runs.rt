@@ -1,5 +1,5 @@
 //! Runs: hosts in memory are asked, by a seed.
-use crate::agenda::Agenda;
+use crate::agenda::{Agenda, Event, What};
 use crate::catalogues::questions;
 use crate::conduct::Conduct;
 use crate::fault::Fault;
@@ -10,7 +10,7 @@ use bytes::Bytes;
 use std::alloc::Global;
 use zber::Seq;
 use zber_tests::dice::Dice;
-use zoom_asking::{AskedHost, Asking, Manner};
+use zoom_asking::{AskedHost, Asking, Manner, Report};
 use zoom_pool::MetaSettings;
 
 /// What a run does, all else by dice.
@@ -60,7 +60,6 @@ fn asked_host(nature: Nature) -> Option<AskedHost> {
         return None;
     }
     Some(AskedHost {
-        addresses: nature.addresses,
         connect: 1_000 * MILLISECOND,
         patience: 1_000 * MILLISECOND,
     })
@@ -93,6 +92,22 @@ fn begin(alloc: Global, natures: &[Nature], plan: Plan, now: u64) -> Result<Aski
     )?)
 }
 
+/// The names of the hosts are to be resolved.
+fn resolve_all(natures: &[Nature], now: u64, agenda: &mut Agenda) -> Result<(), Fault> {
+    let mut c = 0;
+    for nature in natures {
+        if nature.temper != Temper::Unasked && nature.temper != Temper::Unresolved {
+            agenda.put(Event {
+                time: now.saturating_add(nature.resolves_in),
+                c,
+                what: What::Report(Report::Resolved(nature.addresses)),
+            })?;
+        }
+        c = c.saturating_add(1);
+    }
+    Ok(())
+}
+
 /// A run that has begun.
 fn begun(alloc: Global, plan: Plan) -> Result<Simulation, Fault> {
     let mut dice = Dice::new(plan.seed);
@@ -107,6 +122,8 @@ fn begun(alloc: Global, plan: Plan) -> Result<Simulation, Fault> {
         peers.push(Peer::new(alloc, c, *nature)?)?;
         conducts.push(Conduct::new(alloc, nature.addresses)?)?;
     }
+    let mut agenda = Agenda::new(alloc);
+    resolve_all(natures.as_slice(), now, &mut agenda)?;
     let end = now.saturating_add(plan.total());
     let gives_up = if plan.gives_up {
         Some(now.saturating_add(dice.number_below(2_000 * MILLISECOND)))
@@ -118,7 +135,7 @@ fn begun(alloc: Global, plan: Plan) -> Result<Simulation, Fault> {
         asking,
         peers,
         conducts,
-        agenda: Agenda::new(alloc),
+        agenda,
         held: Vec::new(alloc),
         dice,
         in_order: !plan.at_once,

@@ -177,6 +177,6 @@ impl Simulation {
 
     /// Whether those behind a host of this nature are not asked to their ends.
     fn is_last(&self, nature: Nature) -> bool {
-        self.in_order && nature.temper == Temper::Trickles
+        self.in_order && matches!(nature.temper, Temper::Trickles | Temper::Unresolved)
     }
 }

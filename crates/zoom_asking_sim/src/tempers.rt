@@ -9,8 +9,10 @@ pub(crate) const MILLISECOND: u64 = 1_000_000;
 pub(crate) enum Temper {
     /// It is not chosen.
     Unasked,
-    /// It has no address.
+    /// Its name has no address.
     Unnamed,
+    /// Its name is never resolved.
+    Unresolved,
     /// It answers all requests in time.
     Honest,
     /// It connects, and never sends.
@@ -49,15 +51,18 @@ pub(crate) struct Nature {
     pub number: u64,
     /// The most octets of a piece.
     pub piece: u64,
+    /// How long it takes to resolve its name, in nanoseconds.
+    pub resolves_in: u64,
 }
 
-const TEMPERS: [Temper; 18] = [
+const TEMPERS: [Temper; 19] = [
     Temper::Honest,
     Temper::Honest,
     Temper::Honest,
     Temper::Honest,
     Temper::Unasked,
     Temper::Unnamed,
+    Temper::Unresolved,
     Temper::Silent,
     Temper::Refuses,
     Temper::FirstSilent,
@@ -91,6 +96,16 @@ fn addresses_of(temper: Temper, dice: &mut Dice) -> usize {
     }
 }
 
+// How long it takes to resolve a name: no time if it is an address in numbers, and sometimes longer than a host may take
+// to connect.
+fn resolves_in(dice: &mut Dice) -> u64 {
+    if dice.number_below(4) == 0 {
+        dice.number_below(1_200 * MILLISECOND)
+    } else {
+        0
+    }
+}
+
 /// A nature by the dice.
 pub(crate) fn draw_nature(dice: &mut Dice) -> Nature {
     let at = dice.number_below(TEMPERS.len() as u64) as usize;
@@ -101,5 +116,6 @@ pub(crate) fn draw_nature(dice: &mut Dice) -> Nature {
         records: (dice.number_below(9) & 15) as u32,
         number: number_for(temper, dice),
         piece: dice.number_below(100).saturating_add(8),
+        resolves_in: resolves_in(dice),
     }
 }

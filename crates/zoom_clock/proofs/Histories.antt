@@ -1,14 +1,15 @@
 -- An induction over the history of a connection, by its stages.
-use Rattle.std.proofs.Common.{◌≡◌, ℕ, ◌≤◌, max, Bool, true, false, cond, not, ◌&&◌, ◌||◌, nat_le, List, [], ◌∷◌, ◌++◌, Option, refl, sym, ap₂, subst, subst₂, append-nil, arith}
+use Rattle.std.proofs.Common.{◌≡◌, ℕ, ◌≤◌, max, Bool, true, false, cond, not, ◌&&◌, ◌||◌, nat_le, List, [], ◌∷◌, ◌++◌, refl, sym, ap₂, subst, subst₂, append-nil, arith}
 use Rattle.zoom_clock.specs.declared.action.Task.{Task}
 use Rattle.zoom_clock.specs.declared.attempts.Attempts.{Attempts}
 use Rattle.zoom_clock.specs.declared.course.Course.{Course}
 use Rattle.zoom_clock.specs.declared.limits.Limits.{Limits}
 use Rattle.zoom_clock.specs.declared.signal.Signal.{Signal}
 use Rattle.zoom_clock.specs.declared.stage.Stage.{Stage}
-use Rattle.zoom_clock.specs.declared.stage.Stage.TheVariants.{NotChosen, Connecting, Talking, Over}
+use Rattle.zoom_clock.specs.declared.stage.Stage.TheVariants.{NotChosen, Resolving, Connecting, Talking, Over}
 use Rattle.zoom_clock.specs.declared.talk.Talk.{Talk}
-use Rattle.zoom_clock.specs.Stages.{Ruling, ruling, first_ruling, connecting_ruling, talking_ruling, talk_end}
+use Rattle.zoom_clock.specs.Times.{total_end}
+use Rattle.zoom_clock.specs.Stages.{Ruling, ruling, first_stage, resolving_ruling, connecting_ruling, talking_ruling, talk_end}
 use Rattle.zoom_clock.specs.Courses.{Event, event, is_tick, is_settled, wanted_after, wake_of, is_idle, ruling_of, step, tasks_of, course_after, tasks_after}
 use Rattle.zoom_clock.specs.Accounts.{latest_in}
 use Rattle.zoom_clock.proofs.Choices.{at_either, comes, from_not_false}
@@ -16,43 +17,43 @@ use Rattle.zoom_clock.proofs.Waking.{course, tick, moved, IsAhead, after_tick}
 
 -- ---- what a history keeps
 
-module _ (limits : Limits) (addresses : Option ℕ) (start : ℕ) (wanted : Bool) where
-  pub limits_kept : (es : List Event) → (course_after limits addresses start wanted es).limits ≡ limits
+module _ (limits : Limits) (chosen : Bool) (start : ℕ) (wanted : Bool) where
+  pub limits_kept : (es : List Event) → (course_after limits chosen start wanted es).limits ≡ limits
   limits_kept [] = refl
   limits_kept (e ∷ es) =
-      let p = course_after limits addresses start wanted es in
+      let p = course_after limits chosen start wanted es in
       at_either (λ (q : Course). q.limits ≡ limits) (is_idle e p) p (moved e p)
       (λ _. limits_kept es) (λ _. limits_kept es)
 
-  pub start_kept : (es : List Event) → (course_after limits addresses start wanted es).start ≡ start
+  pub start_kept : (es : List Event) → (course_after limits chosen start wanted es).start ≡ start
   start_kept [] = refl
   start_kept (e ∷ es) =
-      let p = course_after limits addresses start wanted es in
+      let p = course_after limits chosen start wanted es in
       at_either (λ (q : Course). q.start ≡ start) (is_idle e p) p (moved e p)
       (λ _. start_kept es) (λ _. start_kept es)
 
-  pub latest_kept : (es : List Event) → (course_after limits addresses start wanted es).latest ≤ latest_in start es
+  pub latest_kept : (es : List Event) → (course_after limits chosen start wanted es).latest ≤ latest_in start es
   latest_kept [] = omega arith
   latest_kept (e ∷ es) =
-      let p = course_after limits addresses start wanted es in
+      let p = course_after limits chosen start wanted es in
       let before : p.latest ≤ latest_in start es = latest_kept es in
       at_either (λ (q : Course). q.latest ≤ latest_in start (e ∷ es)) (is_idle e p) p (moved e p)
       (λ _. omega arith) (λ _. omega arith)
 
   -- after a tick, no time has come
   ahead_after : (now : ℕ) (es : List Event)
-      → IsAhead limits start (course_after limits addresses start wanted es).wanted now
-      (course_after limits addresses start wanted (tick now ∷ es)).stage
+      → IsAhead limits start (course_after limits chosen start wanted es).wanted now
+      (course_after limits chosen start wanted (tick now ∷ es)).stage
   ahead_after now es =
-      let p = course_after limits addresses start wanted es in
-      subst₂ (λ l s. IsAhead l s p.wanted now (course_after limits addresses start wanted (tick now ∷ es)).stage)
+      let p = course_after limits chosen start wanted es in
+      subst₂ (λ l s. IsAhead l s p.wanted now (course_after limits chosen start wanted (tick now ∷ es)).stage)
       (limits_kept es) (start_kept es) (after_tick p now)
 
   pub ahead_at : (now : ℕ) (es : List Event) (s : Stage)
-      → (course_after limits addresses start wanted (tick now ∷ es)).stage ≡ s
-      → IsAhead limits start (course_after limits addresses start wanted es).wanted now s
+      → (course_after limits chosen start wanted (tick now ∷ es)).stage ≡ s
+      → IsAhead limits start (course_after limits chosen start wanted es).wanted now s
   ahead_at now es s h =
-      subst (IsAhead limits start (course_after limits addresses start wanted es).wanted now) h (ahead_after now es)
+      subst (IsAhead limits start (course_after limits chosen start wanted es).wanted now) h (ahead_after now es)
 
 -- ---- what holds of every history
 
@@ -74,7 +75,7 @@ comes_if : (t c : Bool) → (t && not c) ≡ false → t ≡ true → c ≡ true
 comes_if true c h e = from_not_false c h
 comes_if false c h e = cc
 
-module _ (limits : Limits) (addresses : Option ℕ) (start : ℕ) (wanted : Bool)
+module _ (limits : Limits) (chosen : Bool) (start : ℕ) (wanted : Bool)
     (P : List Event → List Task → Bool → Stage → Type 0) where
   -- it holds after a ruling
   abbrev pub Ruled : List Event → List Task → Bool → Ruling → Type 0
@@ -82,9 +83,12 @@ module _ (limits : Limits) (addresses : Option ℕ) (start : ℕ) (wanted : Bool
 
   -- it holds at the start, and each signal keeps it
   pub record IsKept : Type 0 where
-    pub first : Ruled [] [] wanted (first_ruling addresses start)
+    pub first : P [] [] wanted (first_stage chosen)
     pub idle : (e : Event) (es : List Event) (ts : List Task) (w : Bool) (s : Stage) → P es ts w s → IsIdle e s
         → P (e ∷ es) ts w s
+    pub resolving : (at now : ℕ) (what : Signal) (es : List Event) (ts : List Task) (w : Bool)
+        → IsNow start now (event at what) es → (is_tick what ≡ true → total_end limits.total start ≤ at)
+        → P es ts w Resolving → Ruled (event at what ∷ es) ts (wanted_after what w) (resolving_ruling now what)
     pub connecting : (at now : ℕ) (what : Signal) (es : List Event) (ts : List Task) (w : Bool) (a : Attempts)
         → IsNow start now (event at what) es → P es ts w (Connecting a)
         → Ruled (event at what ∷ es) ts (wanted_after what w) (connecting_ruling limits start now w what a)
@@ -105,6 +109,12 @@ module _ (limits : Limits) (addresses : Option ℕ) (start : ℕ) (wanted : Bool
       → latest ≤ latest_in start es → is_idle e (course limits start latest w s) ≡ false → P es ts w s
       → Ruled (e ∷ es) ts (wanted_after e.what w) (ruling limits start (max latest e.at) w e.what s)
   ruled k e es ts latest w NotChosen bound h p = cc
+  ruled k e es ts latest w Resolving bound h p =
+      k.resolving e.at (max latest e.at) e.what es ts w (record { after = omega arith; before = omega arith })
+      (λ tick.
+      comes (total_end limits.total start) e.at
+      (comes_if (is_tick e.what) (nat_le (total_end limits.total start) e.at) h tick))
+      p
   ruled k e es ts latest w (Connecting a) bound h p =
       k.connecting e.at (max latest e.at) e.what es ts w a (record { after = omega arith; before = omega arith }) p
   ruled k e es ts latest w (Talking t) bound h p =
@@ -130,22 +140,22 @@ module _ (limits : Limits) (addresses : Option ℕ) (start : ℕ) (wanted : Bool
 
   -- so it holds of every history
   pub always : IsKept → (es : List Event)
-      → P es (tasks_after limits addresses start wanted es) (course_after limits addresses start wanted es).wanted
-      (course_after limits addresses start wanted es).stage
+      → P es (tasks_after limits chosen start wanted es) (course_after limits chosen start wanted es).wanted
+      (course_after limits chosen start wanted es).stage
   always k [] = k.first
   always k (e ∷ es) =
-      let p = course_after limits addresses start wanted es in
-      let ts = tasks_after limits addresses start wanted es in
+      let p = course_after limits chosen start wanted es in
+      let ts = tasks_after limits chosen start wanted es in
       let same : course limits start p.latest p.wanted p.stage ≡ p =
-      ap₂ (λ l s. course l s p.latest p.wanted p.stage) (sym (limits_kept limits addresses start wanted es))
-      (sym (start_kept limits addresses start wanted es)) in
+      ap₂ (λ l s. course l s p.latest p.wanted p.stage) (sym (limits_kept limits chosen start wanted es))
+      (sym (start_kept limits chosen start wanted es)) in
       subst (Told e es ts) same
       (told k (is_idle e (course limits start p.latest p.wanted p.stage)) e es ts p.latest p.wanted p.stage
-      (latest_kept limits addresses start wanted es) refl (always k es))
+      (latest_kept limits chosen start wanted es) refl (always k es))
 
   -- and of the stage that a history leads to
-  pub always_at : IsKept → (es : List Event) (s : Stage) → (course_after limits addresses start wanted es).stage ≡ s
-      → P es (tasks_after limits addresses start wanted es) (course_after limits addresses start wanted es).wanted s
+  pub always_at : IsKept → (es : List Event) (s : Stage) → (course_after limits chosen start wanted es).stage ≡ s
+      → P es (tasks_after limits chosen start wanted es) (course_after limits chosen start wanted es).wanted s
   always_at k es s h =
-      let p = course_after limits addresses start wanted es in
-      subst (P es (tasks_after limits addresses start wanted es) p.wanted) h (always k es)
+      let p = course_after limits chosen start wanted es in
+      subst (P es (tasks_after limits chosen start wanted es) p.wanted) h (always k es)

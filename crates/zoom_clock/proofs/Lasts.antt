@@ -1,14 +1,13 @@
 -- The attempt that was begun last has not failed while an address was not tried.
-use Rattle.std.proofs.Common.{◌≡◌, inl, inr, ℕ, zero, suc, ◌==◌, Bool, true, false, List, [], ◌∷◌, slice_set, position, is_some, None, Some, refl, sym, ap, ◌∙◌}
+use Rattle.std.proofs.Common.{◌≡◌, inl, inr, ℕ, suc, ◌==◌, Bool, true, false, List, ◌∷◌, slice_set, position, is_some, None, Some, refl, sym, ap, ◌∙◌}
 use Rattle.zoom_clock.specs.declared.action.Task.{Task}
 use Rattle.zoom_clock.specs.declared.attempt.Attempt.{Attempt}
 use Rattle.zoom_clock.specs.declared.attempt.Attempt.TheVariants.{Ahead, Open, Waiting, Failed}
 use Rattle.zoom_clock.specs.declared.attempts.Attempts.{Attempts}
 use Rattle.zoom_clock.specs.declared.limits.Limits.{Limits}
 use Rattle.zoom_clock.specs.declared.stage.Stage.{Stage}
-use Rattle.zoom_clock.specs.declared.stage.Stage.TheVariants.{NotChosen, Connecting, Talking, Over}
-use Rattle.zoom_clock.specs.Attempts.{is_ahead, has_failed, next_of, with_begun, with_failed, with_waiting}
-use Rattle.zoom_clock.specs.Stages.{first_ruling}
+use Rattle.zoom_clock.specs.declared.stage.Stage.TheVariants.{NotChosen, Resolving, Connecting, Talking, Over}
+use Rattle.zoom_clock.specs.Attempts.{is_ahead, has_failed, next_of, first_attempts, with_begun, with_failed, with_waiting}
 use Rattle.zoom_clock.specs.Courses.{Event}
 use Rattle.zoom_clock.specs.Laws.{stage_after}
 use Rattle.zoom_clock.proofs.Choices.{other_number}
@@ -22,6 +21,7 @@ IsLastLive a = (k : ℕ) → state a.states k ≡ Ahead → has_failed (state a.
 
 abbrev pub IsLive : List Event → List Task → Bool → Stage → Type 0
 IsLive es ts w NotChosen = Unit {0}
+IsLive es ts w Resolving = Unit {0}
 IsLive es ts w (Connecting a) = IsLastLive a
 IsLive es ts w (Talking t) = Unit {0}
 IsLive es ts w (Over ending) = Unit {0}
@@ -29,6 +29,7 @@ IsLive es ts w (Over ending) = Unit {0}
 passing_live : (e : Event) (es : List Event) (ts : List Task) (w v : Bool) (s : Stage) → IsLive es ts w s
     → IsLive (e ∷ es) ts v s
 passing_live e es ts w v NotChosen h = tt
+passing_live e es ts w v Resolving h = tt
 passing_live e es ts w v (Connecting a) h = h
 passing_live e es ts w v (Talking t) h = tt
 passing_live e es ts w v (Over ending) h = tt
@@ -60,14 +61,18 @@ failed_by false k a e next h i ahead = elim (state_set a.states k a.last Failed)
   | inr same ↦ ap has_failed same ∙ h i (ahead_before a.states k i Failed (λ x. cc) ahead)
 ]
 
-first_live : (n start : ℕ) (ts : List Task) (w : Bool) → IsLive [] ts w (first_ruling (Some n) start).stage
-first_live zero start ts w = tt
-first_live (suc n) start ts w = λ k ahead. refl
+-- the first attempt is open
+first_live : (n now : ℕ) → IsLastLive (first_attempts (suc n) now)
+first_live n now k ahead = refl
 
-all_live : (limits : Limits) (n start : ℕ) (wanted : Bool) → IsTraced limits n start wanted IsLive
-all_live limits n start wanted = record {
-  first = first_live n start (first_ruling (Some n) start).tasks wanted;
-  passing = λ e es ts w v s turn h. passing_live e es ts w v s h;
+all_live : (limits : Limits) (start : ℕ) (wanted : Bool) → IsTraced limits start wanted IsLive
+all_live limits start wanted = record {
+  first = tt;
+  passing = λ e es ts w v s turn quiet h. passing_live e es ts w v s h;
+  resolved = λ at now n es ts w i h. first_live n now;
+  unresolved = λ at es ts w h. tt;
+  overdue = λ at es ts w late h. tt;
+  abandoned = λ at es ts w h. tt;
   won = λ at now k es ts w a o h. tt;
   waiting = λ at now k es ts w a o h. waiting_live now k a h;
   failed = λ at k es ts w a o next h. failed_by (k == a.last) k a refl next h;
@@ -81,10 +86,10 @@ all_live limits n start wanted = record {
   ended = λ e es ts w t ending other h. tt;
 }
 
-pub live_at : (limits : Limits) (n start : ℕ) (wanted : Bool) (es : List Event) (a : Attempts)
-    → stage_after limits n start wanted es ≡ Connecting a → is_some (position is_ahead a.states) ≡ true
+pub live_at : (limits : Limits) (start : ℕ) (wanted : Bool) (es : List Event) (a : Attempts)
+    → stage_after limits start wanted es ≡ Connecting a → is_some (position is_ahead a.states) ≡ true
     → has_failed (state a.states a.last) ≡ false
-live_at limits n start wanted es a h next =
+live_at limits start wanted es a h next =
     let ahead = some_ahead a.states next in
-    always_at limits (Some n) start wanted IsLive
-    (traced limits n start wanted IsLive (all_live limits n start wanted)) es (Connecting a) h ahead.0 ahead.1
+    always_at limits true start wanted IsLive
+    (traced limits start wanted IsLive (all_live limits start wanted)) es (Connecting a) h ahead.0 ahead.1

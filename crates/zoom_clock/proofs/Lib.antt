@@ -6,6 +6,7 @@ pub mod Turning
 pub mod Choices
 pub mod Waking
 pub mod Histories
+pub mod Addresses
 pub mod States
 pub mod Tellings
 pub mod Endings

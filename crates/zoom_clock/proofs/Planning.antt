@@ -1,24 +1,20 @@
 -- The connections at the start, as a loop goes over them.
-use Rattle.std.proofs.Common.{◌≡◌, ◌⊎◌, inl, inr, ℕ, zero, suc, ◌+◌, ◌<◌, ◌≤◌, Bool, List, [], ◌∷◌, ◌++◌, length, take, Option, Some, refl, sym, ap, subst, ◌∙◌, arith, add-one, add-zero, append_assoc, append-nil}
+use Rattle.std.proofs.Common.{◌≡◌, ◌⊎◌, inl, inr, ℕ, zero, suc, ◌+◌, ◌<◌, ◌≤◌, Bool, List, [], ◌∷◌, ◌++◌, length, take, Option, Some, refl, sym, ap, subst, ◌∙◌, arith, add-one}
 use Rattle.std.proofs.lemmas.Option.{slice_get_within}
 use Rattle.std.specs.Prelude.{slice_get, slice_set}
-use Rattle.zoom_clock.specs.declared.action.Action.{Action}
 use Rattle.zoom_clock.specs.declared.plan.Plan.{Plan}
 use Rattle.zoom_clock.specs.declared.course.Course.{Course}
-use Rattle.zoom_clock.specs.Actions.{all_for}
-use Rattle.zoom_clock.specs.Stages.{first_ruling}
 use Rattle.zoom_clock.specs.Courses.{wake_of}
 use Rattle.zoom_clock.specs.Times.{IsTime}
-use Rattle.zoom_clock.specs.Clocks.{all_planned, planned_tasks}
+use Rattle.zoom_clock.specs.Clocks.{all_planned}
 use Rattle.zoom_clock.specs.Plans.{planned}
 use Rattle.zoom_clock.proofs.Places.{get_set, get_last, length_set}
 
 -- the first `i` plans were made
 pub record ArePlanned
-    (start : ℕ) (wanted : Bool) (i : ℕ) (plans : List Plan) (courses : List Course) (queue : List Action)
+    (start : ℕ) (wanted : Bool) (i : ℕ) (plans : List Plan) (courses : List Course)
     (wakes : List (Option ℕ)) : Type 0 where
   pub courses_are : courses ≡ all_planned start wanted (take i plans)
-  pub queue_is : queue ≡ planned_tasks start 0 (take i plans)
   pub size : length wakes ≡ length plans
   pub kept : (c : ℕ) (p : Course) (r : Option ℕ) → slice_get courses c ≡ Some p → slice_get wakes c ≡ Some r
       → IsTime (wake_of p) r
@@ -39,47 +35,28 @@ planned_more : (start : ℕ) (wanted : Bool) (plans : List Plan) (plan : Plan)
 planned_more start wanted [] plan = refl
 planned_more start wanted (x ∷ plans) plan = ap (λ l. planned start wanted x ∷ l) (planned_more start wanted plans plan)
 
-tasks_more : (start c : ℕ) (plans : List Plan) (plan : Plan)
-    → planned_tasks start c (plans ++ plan ∷ [])
-    ≡ planned_tasks start c plans ++ all_for (c + length plans) (first_ruling plan.addresses start).tasks
-tasks_more start c [] plan =
-    append-nil (all_for c (first_ruling plan.addresses start).tasks)
-    ∙ ap (λ k. all_for k (first_ruling plan.addresses start).tasks) (sym (add-zero c))
-tasks_more start c (x ∷ plans) plan =
-    let here = all_for c (first_ruling x.addresses start).tasks in
-    let e : (c + 1) + length plans ≡ c + suc (length plans) = omega arith in
-    ap (λ l. here ++ l) (tasks_more start (c + 1) plans plan
-    ∙ ap (λ k. planned_tasks start (c + 1) plans ++ all_for k (first_ruling plan.addresses start).tasks) e)
-    ∙ sym (append_assoc here (planned_tasks start (c + 1) plans)
-    (all_for (c + suc (length plans)) (first_ruling plan.addresses start).tasks))
-
 planned_count : (start : ℕ) (wanted : Bool) (plans : List Plan) → length (all_planned start wanted plans) ≡ length plans
 planned_count start wanted [] = refl
 planned_count start wanted (x ∷ plans) = ap suc (planned_count start wanted plans)
 
-pub none_planned : (start : ℕ) (wanted : Bool) (plans : List Plan) (courses : List Course) (queue : List Action)
-    (wakes : List (Option ℕ)) → courses ≡ [] → queue ≡ [] → length wakes ≡ length plans
-    → ArePlanned start wanted 0 plans courses queue wakes
-none_planned start wanted plans courses queue wakes none empty size = record {
+pub none_planned : (start : ℕ) (wanted : Bool) (plans : List Plan) (courses : List Course)
+    (wakes : List (Option ℕ)) → courses ≡ [] → length wakes ≡ length plans
+    → ArePlanned start wanted 0 plans courses wakes
+none_planned start wanted plans courses wakes none size = record {
   courses_are = none;
-  queue_is = empty;
   size = size;
   kept = λ c p r at. absurd (subst (λ (l : List Course). slice_get l c ≡ Some p → ⊥) (sym none) (λ h. cc) at);
 }
 
 pub one_planned : (start : ℕ) (wanted : Bool) (i : ℕ) (plans : List Plan) (plan : Plan) (courses more : List Course)
-    (queue then : List Action) (wakes later : List (Option ℕ)) (q : Course) (r : Option ℕ)
-    → ArePlanned start wanted i plans courses queue wakes → slice_get plans i ≡ Some plan
-    → q ≡ planned start wanted plan → more ≡ courses ++ q ∷ []
-    → then ≡ queue ++ all_for i (first_ruling plan.addresses start).tasks → later ≡ slice_set wakes i r
-    → IsTime (wake_of q) r → ArePlanned start wanted (i + 1) plans more then later
-one_planned start wanted i plans plan courses more queue then wakes later q r a at made pushed put set time = record {
+    (wakes later : List (Option ℕ)) (q : Course) (r : Option ℕ)
+    → ArePlanned start wanted i plans courses wakes → slice_get plans i ≡ Some plan
+    → q ≡ planned start wanted plan → more ≡ courses ++ q ∷ [] → later ≡ slice_set wakes i r
+    → IsTime (wake_of q) r → ArePlanned start wanted (i + 1) plans more later
+one_planned start wanted i plans plan courses more wakes later q r a at made pushed set time = record {
   courses_are = pushed ∙ ap (λ l. l ++ q ∷ []) a.courses_are
       ∙ ap (λ y. all_planned start wanted (take i plans) ++ y ∷ []) made
       ∙ sym (planned_more start wanted (take i plans) plan) ∙ ap (all_planned start wanted) (sym longer);
-  queue_is = put ∙ ap (λ l. l ++ all_for i (first_ruling plan.addresses start).tasks) a.queue_is
-      ∙ ap (λ k. planned_tasks start 0 (take i plans) ++ all_for k (first_ruling plan.addresses start).tasks) (sym count)
-      ∙ sym (tasks_more start 0 (take i plans) plan) ∙ ap (planned_tasks start 0) (sym longer);
   size = ap length set ∙ length_set wakes i r ∙ a.size;
   kept = λ d x s atx ats. by d x s
       (get_last courses d q x (subst (λ (l : List Course). slice_get l d ≡ Some x) pushed atx))
@@ -91,9 +68,6 @@ one_planned start wanted i plans plan courses more queue then wakes later q r a 
 
     longer : take (i + 1) plans ≡ take i plans ++ plan ∷ []
     longer = ap (λ k. take k plans) (add-one i) ∙ take_more i plans plan at
-
-    count : 0 + length (take i plans) ≡ i
-    count = let l = length_take i plans (omega (arith, lt)) in omega arith
 
     so_far : length courses ≡ i
     so_far = ap length a.courses_are ∙ planned_count start wanted (take i plans) ∙ length_take i plans (omega (arith, lt))

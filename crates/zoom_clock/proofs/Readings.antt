@@ -1,5 +1,5 @@
 -- Octets are wanted only once the turn of a connection has come.
-use Rattle.std.proofs.Common.{◌≡◌, ◌⊎◌, inl, inr, ℕ, zero, suc, ◌<◌, Bool, true, false, List, [], ◌∷◌, ◌++◌, map, length, slice_index_or, slice_set, Contains, Some, refl, arith}
+use Rattle.std.proofs.Common.{◌≡◌, ◌⊎◌, inl, inr, ℕ, zero, suc, ◌<◌, Bool, true, false, List, [], ◌∷◌, ◌++◌, map, length, slice_index_or, slice_set, Contains, refl, arith}
 use Rattle.std.proofs.lemmas.List.Elements.{Contains-append_cases}
 use Rattle.zoom_clock.specs.declared.action.Task.{Task}
 use Rattle.zoom_clock.specs.declared.action.Task.TheVariants.{Connect, Read, Leave}
@@ -9,9 +9,9 @@ use Rattle.zoom_clock.specs.declared.limits.Limits.{Limits}
 use Rattle.zoom_clock.specs.declared.signal.Ending.TheVariants as endings
 use Rattle.zoom_clock.specs.declared.signal.Signal.TheVariants as signals
 use Rattle.zoom_clock.specs.declared.stage.Stage.{Stage}
-use Rattle.zoom_clock.specs.declared.stage.Stage.TheVariants.{Connecting, Talking, Over}
-use Rattle.zoom_clock.specs.Attempts.{leaves, open_from, with_begun, with_failed, with_waiting}
-use Rattle.zoom_clock.specs.Stages.{first_ruling, first_talk, reading}
+use Rattle.zoom_clock.specs.declared.stage.Stage.TheVariants.{Resolving, Connecting, Talking, Over}
+use Rattle.zoom_clock.specs.Attempts.{leaves, open_from, first_attempts, with_begun, with_failed, with_waiting}
+use Rattle.zoom_clock.specs.Stages.{first_talk, reading}
 use Rattle.zoom_clock.specs.Courses.{Event, event}
 use Rattle.zoom_clock.specs.Accounts.{WasTold}
 use Rattle.zoom_clock.specs.Laws.{tasks_till}
@@ -82,14 +82,6 @@ reading_next : (wanted : Bool) (e : Event) (es : List Event) (ts us : List Task)
 reading_next wanted e es ts us w v s q turn only h =
     reading_more wanted (e ∷ es) ts us v q only (reading_still wanted e es ts w v s q turn h)
 
-first_reading : (n start : ℕ) (wanted : Bool)
-    → IsReading wanted [] (first_ruling (Some n) start).tasks wanted (first_ruling (Some n) start).stage
-first_reading zero start wanted = record { asked = λ h. inl h; read = λ r. absurd (none_at Read r.0 r.1) }
-first_reading (suc n) start wanted = record {
-  asked = λ h. inl h;
-  read = λ r. let e = one_task (Connect 0) Read r in cc;
-}
-
 begins_only : (j : ℕ) (w : Bool) → Contains (Connect j ∷ []) Read → w ≡ true
 begins_only j w r = let e = one_task (Connect j) Read r in cc
 
@@ -103,10 +95,19 @@ won_only : (xs : List Attempt) (w : Bool) → Contains (leaves xs ++ reading w) 
 won_only xs w r =
     elim (Contains-append_cases (leaves xs) (reading w) Read r) [ inl l ↦ leaves_only xs w l | inr q ↦ read_wanted w q ]
 
-all_reading : (limits : Limits) (n start : ℕ) (wanted : Bool) → IsTraced limits n start wanted (IsReading wanted)
-all_reading limits n start wanted = record {
-  first = first_reading n start wanted;
-  passing = λ e es ts w v s turn h. reading_still wanted e es ts w v s s turn h;
+all_reading : (limits : Limits) (start : ℕ) (wanted : Bool) → IsTraced limits start wanted (IsReading wanted)
+all_reading limits start wanted = record {
+  first = record { asked = λ h. inl h; read = λ r. absurd (none_at Read r.0 r.1) };
+  passing = λ e es ts w v s turn quiet h. reading_still wanted e es ts w v s s turn h;
+  resolved = λ at now n es ts w i h.
+      reading_next wanted (event at (signals.Resolved (suc n))) es ts (Connect 0 ∷ []) w w Resolving
+      (Connecting (first_attempts (suc n) now)) (λ x. inl x) (begins_only 0 w) h;
+  unresolved = λ at es ts w h. reading_still wanted (event at (signals.Resolved 0)) es ts w w Resolving
+      (Over endings.Connect) (λ x. inl x) h;
+  overdue = λ at es ts w late h. reading_still wanted (event at signals.Tick) es ts w w Resolving
+      (Over endings.Connect) (λ x. inl x) h;
+  abandoned = λ at es ts w h. reading_still wanted (event at signals.GiveUp) es ts w w Resolving
+      (Over endings.Turns) (λ x. inl x) h;
   won = λ at now k es ts w a o h. reading_next wanted (event at (signals.Connected k)) es ts
       (leaves (slice_set a.states k Failed) ++ reading w) w w (Connecting a) (Talking (first_talk limits now k))
       (λ x. inl x) (won_only (slice_set a.states k Failed) w) h;
@@ -133,9 +134,9 @@ all_reading limits n start wanted = record {
       (Over ending) (λ x. inl x) (left_only t.socket w) h;
 }
 
-pub reads_after : (limits : Limits) (n start : ℕ) (wanted : Bool) (es : List Event)
-    → Contains (tasks_till limits n start wanted es) Read → (wanted ≡ true) ⊎ WasTold signals.Turn es
-reads_after limits n start wanted es r =
-    (always limits (Some n) start wanted (IsReading wanted)
-    (traced limits n start wanted (IsReading wanted) (all_reading limits n start wanted)) es).read
+pub reads_after : (limits : Limits) (start : ℕ) (wanted : Bool) (es : List Event)
+    → Contains (tasks_till limits start wanted es) Read → (wanted ≡ true) ⊎ WasTold signals.Turn es
+reads_after limits start wanted es r =
+    (always limits true start wanted (IsReading wanted)
+    (traced limits start wanted (IsReading wanted) (all_reading limits start wanted)) es).read
     r

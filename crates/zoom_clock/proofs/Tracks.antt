@@ -1,6 +1,5 @@
 -- What becomes of each attempt: how often it is begun, and that it is left.
-use Rattle.std.proofs.Common.{◌≡◌, ◌⊎◌, inl, inr, ℕ, zero, suc, ◌+◌, ◌<◌, ◌≤◌, true, cond, List, [], ◌∷◌, ◌++◌, length, slice_set, replicate, Some, refl, sym, ap, ◌∙◌, subst, arith}
-use Rattle.std.proofs.Math.ListN.{length-set}
+use Rattle.std.proofs.Common.{◌≡◌, ◌⊎◌, inl, inr, ℕ, zero, suc, ◌+◌, ◌<◌, ◌≤◌, true, cond, List, [], ◌∷◌, ◌++◌, slice_set, replicate, Some, refl, sym, ap, ◌∙◌, subst, arith}
 use Rattle.zoom_clock.specs.declared.action.Task.{Task}
 use Rattle.zoom_clock.specs.declared.action.Task.TheVariants.{Connect}
 use Rattle.zoom_clock.specs.declared.attempt.Attempt.{Attempt}
@@ -8,9 +7,10 @@ use Rattle.zoom_clock.specs.declared.attempt.Attempt.TheVariants.{Ahead, Open, W
 use Rattle.zoom_clock.specs.declared.signal.Signal.TheVariants as signals
 use Rattle.zoom_clock.specs.Attempts.{is_open, next_of}
 use Rattle.zoom_clock.specs.Courses.{Event, event}
-use Rattle.zoom_clock.specs.Accounts.{WasTold, is_no_socket}
-use Rattle.zoom_clock.proofs.States.{state, state_after, open_is, open_within, IsNext, next_is, next_within, first_states, first_length}
-use Rattle.zoom_clock.proofs.Counts.{same_test, other_test, begins, begins_more, lefts, lefts_more, lacks, lacks_next}
+use Rattle.zoom_clock.specs.Accounts.{WasTold, addresses_in, begun_in, is_no_socket}
+use Rattle.zoom_clock.proofs.States.{state, state_after, open_is, open_within, IsNext, next_is, next_within, first_states}
+use Rattle.zoom_clock.proofs.Addresses.{known_still}
+use Rattle.zoom_clock.proofs.Counts.{times, same_test, other_test, begins, begins_more, lefts, lefts_more, lacks, lacks_next}
 
 -- attempt k was left, or was told to have failed, or to have no socket
 abbrev pub IsGone : ℕ → List Event → List Task → Type 0
@@ -36,7 +36,7 @@ pub record IsTracked (n k : ℕ) (es : List Event) (ts : List Task) (x : Attempt
   pub held : 0 < begins k ts → (x ≡ Open) ⊎ IsGone k es ts
 
 pub record AreTracked (n : ℕ) (es : List Event) (ts : List Task) (xs : List Attempt) : Type 0 where
-  pub count : length xs ≡ n
+  pub known : addresses_in es ≡ Some n
   pub each : (k : ℕ) → IsTracked n k es ts (state xs k)
 
 -- ---- more was told
@@ -80,7 +80,10 @@ waiting_one n k e es ts is h = record {
 
 pub tracked_passed : (n : ℕ) (e : Event) (es : List Event) (ts : List Task) (xs : List Attempt) → AreTracked n es ts xs
     → AreTracked n (e ∷ es) ts xs
-tracked_passed n e es ts xs h = record { count = h.count; each = λ k. passed_one n k e es ts (state xs k) (h.each k) }
+tracked_passed n e es ts xs h = record {
+  known = known_still n e es h.known;
+  each = λ k. passed_one n k e es ts (state xs k) (h.each k);
+}
 
 open_one : (n k j : ℕ) (es : List Event) (ts : List Task) (xs : List Attempt) → is_open j xs ≡ true → k ≡ j
     → AreTracked n es ts xs → IsTracked n k es ts Open
@@ -92,7 +95,7 @@ pub tracked_failed : (n at j : ℕ) (es : List Event) (ts : List Task) (xs : Lis
 tracked_failed n at j es ts xs o h =
     let e = event at (signals.Unreachable j) in
     record {
-      count = length-set xs j Failed ∙ h.count;
+      known = known_still n e es h.known;
       each = λ k. elim (state_after xs j k Failed (open_within xs j o)) [
         | inl s ↦
             subst (IsTracked n k (e ∷ es) ts) (sym s.1)
@@ -106,7 +109,7 @@ pub tracked_waiting : (n at j : ℕ) (es : List Event) (ts : List Task) (xs : Li
 tracked_waiting n at j es ts xs o h =
     let e = event at (signals.NoSocket j) in
     record {
-      count = length-set xs j Waiting ∙ h.count;
+      known = known_still n e es h.known;
       each = λ k. elim (state_after xs j k Waiting (open_within xs j o)) [
         | inl s ↦
             subst (IsTracked n k (e ∷ es) ts) (sym s.1)
@@ -160,7 +163,7 @@ tracked_begun n j es ts xs next h =
     let is = next_is xs j next in
     let us : List Task = Connect j ∷ [] in
     record {
-      count = length-set xs j Open ∙ h.count;
+      known = h.known;
       each = λ k. elim (state_after xs j k Open (next_within xs j is)) [
         | inl s ↦
             subst (IsTracked n k es (ts ++ us)) (sym s.1)
@@ -173,20 +176,28 @@ tracked_begun n j es ts xs next h =
 
 -- ---- the start
 
-first_one : (n k : ℕ) → 0 < n → IsTracked n k [] (Connect 0 ∷ []) (state (slice_set (replicate n Ahead) 0 Open) k)
-first_one zero k some = absurd (omega arith)
-first_one (suc n) zero some = record {
+-- an attempt before any was begun
+untouched_one : (n k : ℕ) (es : List Event) (ts : List Task) (x : Attempt) → begins k ts ≡ 0 → (k < n → x ≡ Ahead)
+    → IsTracked n k es ts x
+untouched_one n k es ts x none ahead = record {
   once = omega arith;
-  tried = λ lt. inr (omega arith);
-  held = λ b. inl refl;
+  tried = λ lt. inl (ahead lt);
+  held = λ b. absurd (omega arith);
 }
-first_one (suc n) (suc k) some =
-    let none = other_begun (suc k) 0 (λ e. omega arith) in
-    record {
-      once = omega arith;
-      tried = λ lt. inl (first_states (suc n) (suc k) (omega arith) lt);
-      held = λ b. absurd (omega arith);
-    }
 
-pub tracked_first : (n : ℕ) → 0 < n → AreTracked n [] (Connect 0 ∷ []) (slice_set (replicate n Ahead) 0 Open)
-tracked_first n some = record { count = first_length n; each = λ k. first_one n k some }
+first_one : (n k : ℕ) (es : List Event) (ts : List Task) → 0 < n → begins k ts ≡ 0
+    → IsTracked n k es (ts ++ (Connect 0 ∷ [])) (state (slice_set (replicate n Ahead) 0 Open) k)
+first_one zero k es ts some none = absurd (omega arith)
+first_one (suc n) zero es ts some none =
+    begun_one (suc n) 0 0 es ts Ahead refl refl (untouched_one (suc n) 0 es ts Ahead none (λ _. refl))
+first_one (suc n) (suc k) es ts some none =
+    let x = state (slice_set (replicate (suc n) Ahead) 0 Open) (suc k) in
+    more_one (suc n) (suc k) es ts (Connect 0 ∷ []) x (other_begun (suc k) 0 (λ e. omega arith))
+    (untouched_one (suc n) (suc k) es ts x none (λ lt. first_states (suc n) (suc k) (omega arith) lt))
+
+pub tracked_first : (n : ℕ) (es : List Event) (ts : List Task) → 0 < n → addresses_in es ≡ Some n → begun_in ts ≡ []
+    → AreTracked n es (ts ++ (Connect 0 ∷ [])) (slice_set (replicate n Ahead) 0 Open)
+tracked_first n es ts some known none = record {
+  known = known;
+  each = λ k. first_one n k es ts some (ap (times k) none);
+}

@@ -9,8 +9,8 @@ use Rattle.zoom_clock.specs.declared.signal.Ending.{Ending}
 use Rattle.zoom_clock.specs.declared.signal.Ending.TheVariants as endings
 use Rattle.zoom_clock.specs.declared.signal.Signal.TheVariants as signals
 use Rattle.zoom_clock.specs.declared.stage.Stage.{Stage}
-use Rattle.zoom_clock.specs.declared.stage.Stage.TheVariants.{NotChosen, Connecting, Talking, Over}
-use Rattle.zoom_clock.specs.Times.{never}
+use Rattle.zoom_clock.specs.declared.stage.Stage.TheVariants.{NotChosen, Resolving, Connecting, Talking, Over}
+use Rattle.zoom_clock.specs.Times.{never, total_end}
 use Rattle.zoom_clock.specs.Attempts.{next_of, next_at, with_begun}
 use Rattle.zoom_clock.specs.Stages.{Ruling, ruling, connect_end, talk_end, wake_in, beginning, beginning_next, giving_up, verdict}
 use Rattle.zoom_clock.specs.Courses.{Event, event, is_settled, is_idle, wake_of, time_of, wanted_after, ruling_of, step, tasks_of}
@@ -73,12 +73,13 @@ begins now t end (Some k) a before lt top le = inr (with_begun t k a, k, refl, r
 stage_moves : (limits : Limits) (start now t : ℕ) (w : Bool) (s : Stage) → is_settled s ≡ false → now ≤ t → now < never
     → wake_in limits start w s ≤ now → Moves (ruling limits start t w signals.Tick s)
 stage_moves limits start now t w NotChosen unsettled before top le = cc
+stage_moves limits start now t w Resolving unsettled before top le = inl (endings.Connect, refl)
 stage_moves limits start now t w (Connecting a) unsettled before top le =
-    at_either Moves (nat_le (connect_end limits start) t) (giving_up endings.Connect a) (beginning_next t a)
+    at_either Moves (nat_le (connect_end limits start a.began) t) (giving_up endings.Connect a) (beginning_next t a)
     (λ _. inl (endings.Connect, refl))
     (λ f.
-    begins now t (connect_end limits start) (next_of a.states) a before (comes_not (connect_end limits start) t f) top
-    le)
+    begins now t (connect_end limits start a.began) (next_of a.states) a before
+    (comes_not (connect_end limits start a.began) t f) top le)
 stage_moves limits start now t w (Talking talk) unsettled before top le = inl (verdict talk endings.Read, refl)
 stage_moves limits start now t w (Over ending) unsettled before top le = cc
 
@@ -94,7 +95,8 @@ moves_at p now unsettled top le =
 -- the time of the stage has not come
 abbrev pub IsAhead : Limits → ℕ → Bool → ℕ → Stage → Type 0
 IsAhead limits start w now NotChosen = Unit {0}
-IsAhead limits start w now (Connecting a) = (now < connect_end limits start) × (now < never → now < next_at a)
+IsAhead limits start w now Resolving = now < total_end limits.total start
+IsAhead limits start w now (Connecting a) = (now < connect_end limits start a.began) × (now < never → now < next_at a)
 IsAhead limits start w now (Talking t) = now < talk_end limits start w t
 IsAhead limits start w now (Over ending) = Unit {0}
 
@@ -104,7 +106,7 @@ begun_ahead now t k a before top =
     (λ _. omega arith) (λ _. top)
 
 beginning_ahead : (limits : Limits) (start now t : ℕ) (w : Bool) (o : Option ℕ) (a : Attempts) → next_of a.states ≡ o
-    → now ≤ t → t < connect_end limits start → IsAhead limits start w now (beginning t o a).stage
+    → now ≤ t → t < connect_end limits start a.began → IsAhead limits start w now (beginning t o a).stage
 beginning_ahead limits start now t w None a e before lt =
     (omega arith, λ top. subst (λ o. now < cond (is_some o) (a.since + ATTEMPT_DELAY) never) (sym e) top)
 beginning_ahead limits start now t w (Some k) a e before lt = (omega arith, λ top. begun_ahead now t k a before top)
@@ -112,18 +114,21 @@ beginning_ahead limits start now t w (Some k) a e before lt = (omega arith, λ t
 ruling_ahead : (limits : Limits) (start now t : ℕ) (w : Bool) (s : Stage) → now ≤ t
     → IsAhead limits start w now (ruling limits start t w signals.Tick s).stage
 ruling_ahead limits start now t w NotChosen before = tt
+ruling_ahead limits start now t w Resolving before = tt
 ruling_ahead limits start now t w (Connecting a) before =
     at_either (λ (r : Ruling). IsAhead limits start w now r.stage)
-    (nat_le (connect_end limits start) t) (giving_up endings.Connect a) (beginning_next t a)
+    (nat_le (connect_end limits start a.began) t) (giving_up endings.Connect a) (beginning_next t a)
     (λ _. tt)
     (λ f.
-    beginning_ahead limits start now t w (next_of a.states) a refl before (comes_not (connect_end limits start) t f))
+    beginning_ahead limits start now t w (next_of a.states) a refl before
+    (comes_not (connect_end limits start a.began) t f))
 ruling_ahead limits start now t w (Talking talk) before = tt
 ruling_ahead limits start now t w (Over ending) before = tt
 
 idle_ahead : (limits : Limits) (start latest now : ℕ) (w : Bool) (s : Stage)
     → is_idle (tick now) (course limits start latest w s) ≡ true → IsAhead limits start w now s
 idle_ahead limits start latest now w NotChosen h = tt
+idle_ahead limits start latest now w Resolving h = before_wake (wake_in limits start w Resolving) now h
 idle_ahead limits start latest now w (Connecting a) h =
     let lt = before_wake (wake_in limits start w (Connecting a)) now h in
     (omega arith, λ _. omega arith)
@@ -153,6 +158,7 @@ kept_by_tick false p now = refl
 wake_from_ahead : (limits : Limits) (start now : ℕ) (w : Bool) (s : Stage) → now < never → IsAhead limits start w now s
     → now < wake_in limits start w s
 wake_from_ahead limits start now w NotChosen top h = top
+wake_from_ahead limits start now w Resolving top h = h
 wake_from_ahead limits start now w (Connecting a) top h = let m = h.0 in let n = h.1 top in omega arith
 wake_from_ahead limits start now w (Talking t) top h = h
 wake_from_ahead limits start now w (Over ending) top h = top

@@ -55,11 +55,11 @@ one_open addresses = slice_set (replicate addresses Ahead) 0 Open
 
 -- the first attempt is begun
 abbrev pub first_attempts : ℕ → ℕ → Attempts
-first_attempts addresses start = record { last = 0; since = start; states = one_open addresses }
+first_attempts addresses now = record { began = now; last = 0; since = now; states = one_open addresses }
 
 -- attempt k is begun at this time
 abbrev pub with_begun : ℕ → ℕ → Attempts → Attempts
-with_begun now k a = record { last = k; since = now; states = slice_set a.states k Open }
+with_begun now k a = record a { last = k; since = now; states = slice_set a.states k Open }
 
 -- attempt k has failed
 abbrev pub with_failed : ℕ → Attempts → Attempts

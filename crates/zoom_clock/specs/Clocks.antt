@@ -6,7 +6,6 @@ use Rattle.zoom_clock.specs.declared.course.Course.{Course}
 use Rattle.zoom_clock.specs.declared.plan.Plan.{Plan}
 use Rattle.zoom_clock.specs.declared.signal.Signal.TheVariants as signals
 use Rattle.zoom_clock.specs.Actions.{AreAdded, all_for}
-use Rattle.zoom_clock.specs.Stages.{first_ruling}
 use Rattle.zoom_clock.specs.Courses.{Event, event, is_settled, wake_of, step, tasks_of}
 use Rattle.zoom_clock.specs.Plans.{planned}
 use Rattle.zoom_clock.specs.Times.{IsTime}
@@ -104,9 +103,3 @@ due_count now k = count_by (is_due now) k.wakes
 -- the courses of all
 abbrev pub all_planned : ℕ → Bool → List Plan → List Course
 all_planned start wanted plans = map (planned start wanted) plans
-
--- what is to be done for all; the first has number c
-abbrev pub planned_tasks : ℕ → ℕ → List Plan → List Action
-planned_tasks start c [] = []
-planned_tasks start c (plan ∷ plans) =
-    all_for c (first_ruling plan.addresses start).tasks ++ planned_tasks start (c + 1) plans

@@ -1,13 +1,13 @@
 -- The course of a connection: what became of it after a history of signals.
-use Rattle.std.specs.Prelude.{ℕ, max, nat_le, Bool, true, false, ◌&&◌, ◌||◌, not, if◌then◌else◌, List, [], ◌∷◌, ◌++◌, Option}
+use Rattle.std.specs.Prelude.{ℕ, max, nat_le, Bool, true, false, ◌&&◌, ◌||◌, not, if◌then◌else◌, List, [], ◌∷◌, ◌++◌}
 use Rattle.zoom_clock.specs.declared.action.Task.{Task}
 use Rattle.zoom_clock.specs.declared.course.Course.{Course}
 use Rattle.zoom_clock.specs.declared.limits.Limits.{Limits}
 use Rattle.zoom_clock.specs.declared.signal.Signal.{Signal}
 use Rattle.zoom_clock.specs.declared.signal.Signal.TheVariants as signals
 use Rattle.zoom_clock.specs.declared.stage.Stage.{Stage}
-use Rattle.zoom_clock.specs.declared.stage.Stage.TheVariants.{NotChosen, Connecting, Talking, Over}
-use Rattle.zoom_clock.specs.Stages.{Ruling, ruling, first_ruling, wake_in}
+use Rattle.zoom_clock.specs.declared.stage.Stage.TheVariants.{NotChosen, Resolving, Connecting, Talking, Over}
+use Rattle.zoom_clock.specs.Stages.{Ruling, ruling, first_stage, wake_in}
 
 -- what was told at a time
 pub record Event : Type 0 where
@@ -20,6 +20,7 @@ event at what = record { at = at; what = what }
 -- the connection is over, or was not chosen: nothing changes it
 abbrev pub is_settled : Stage → Bool
 is_settled NotChosen = true
+is_settled Resolving = false
 is_settled (Connecting a) = false
 is_settled (Talking t) = false
 is_settled (Over ending) = true
@@ -64,22 +65,22 @@ abbrev pub tasks_of : Event → Course → List Task
 tasks_of e p = if is_idle e p then [] else (ruling_of e p).tasks
 
 -- at the start
-abbrev pub first_course : Limits → Option ℕ → ℕ → Bool → Course
-first_course limits addresses start wanted = record {
+abbrev pub first_course : Limits → Bool → ℕ → Bool → Course
+first_course limits chosen start wanted = record {
   limits = limits;
   start = start;
   latest = start;
   wanted = wanted;
-  stage = (first_ruling addresses start).stage;
+  stage = first_stage chosen;
 }
 
 -- the course after a history, newest first
-abbrev pub course_after : Limits → Option ℕ → ℕ → Bool → List Event → Course
-course_after limits addresses start wanted [] = first_course limits addresses start wanted
-course_after limits addresses start wanted (e ∷ es) = step e (course_after limits addresses start wanted es)
+abbrev pub course_after : Limits → Bool → ℕ → Bool → List Event → Course
+course_after limits chosen start wanted [] = first_course limits chosen start wanted
+course_after limits chosen start wanted (e ∷ es) = step e (course_after limits chosen start wanted es)
 
 -- all that was to be done, the first thing first
-abbrev pub tasks_after : Limits → Option ℕ → ℕ → Bool → List Event → List Task
-tasks_after limits addresses start wanted [] = (first_ruling addresses start).tasks
-tasks_after limits addresses start wanted (e ∷ es) =
-    tasks_after limits addresses start wanted es ++ tasks_of e (course_after limits addresses start wanted es)
+abbrev pub tasks_after : Limits → Bool → ℕ → Bool → List Event → List Task
+tasks_after limits chosen start wanted [] = []
+tasks_after limits chosen start wanted (e ∷ es) =
+    tasks_after limits chosen start wanted es ++ tasks_of e (course_after limits chosen start wanted es)

@@ -6,4 +6,4 @@ use Rattle.zoom_clock.specs.Courses.{first_course}
 
 -- the course of a connection at the start
 abbrev pub planned : ℕ → Bool → Plan → Course
-planned start wanted plan = first_course plan.limits plan.addresses start wanted
+planned start wanted plan = first_course plan.limits plan.chosen start wanted

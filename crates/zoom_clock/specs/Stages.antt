@@ -1,5 +1,5 @@
--- How far a connection is, and what the rules make of a signal: attempts (RFC 8305, 5), silence, and the end of the
--- association, for which the other end has a time (Z39.50-2003, 3.2.11).
+-- How far a connection is, and what the rules make of a signal: names (RFC 8305, 3), attempts (RFC 8305, 5), silence,
+-- and the end of the association, for which the other end has a time (Z39.50-2003, 3.2.11).
 use Rattle.std.specs.Prelude.{◌≡◌, ℕ, zero, suc, ◌+◌, ◌-◌, ◌==◌, min, nat_le, Bool, true, false, if◌then◌else◌, List, [], ◌∷◌, ◌++◌, Option, None, Some, slice_set}
 use Rattle.std.specs.List.{list_all}
 use Rattle.zoom_clock.specs.declared.action.Action.{Action}
@@ -15,7 +15,7 @@ use Rattle.zoom_clock.specs.declared.signal.Signal.TheVariants as signals
 use Rattle.zoom_clock.specs.declared.signal.Condition.{Condition}
 use Rattle.zoom_clock.specs.declared.signal.Condition.TheVariants as conditions
 use Rattle.zoom_clock.specs.declared.stage.Stage.{Stage}
-use Rattle.zoom_clock.specs.declared.stage.Stage.TheVariants.{NotChosen, Connecting, Talking, Over}
+use Rattle.zoom_clock.specs.declared.stage.Stage.TheVariants.{NotChosen, Resolving, Connecting, Talking, Over}
 use Rattle.zoom_clock.specs.declared.talk.Talk.{Talk}
 use Rattle.zoom_clock.specs.declared.talk.TheConstants.{CLOSE_PATIENCE}
 use Rattle.zoom_clock.specs.Actions.{AreAdded}
@@ -43,9 +43,9 @@ next_stage (Some stage) a = stage
 
 -- ---- limits
 
--- when a connection that has not connected is given up
-abbrev pub connect_end : Limits → ℕ → ℕ
-connect_end limits start = min (start + limits.connect) (total_end limits.total start)
+-- when a connection is given up that has not connected, if it began to connect at `began`
+abbrev pub connect_end : Limits → ℕ → ℕ → ℕ
+connect_end limits start began = min (began + limits.connect) (total_end limits.total start)
 
 -- how long a connection may be silent: one that has all it wanted, no longer than a Close is waited for
 abbrev pub silence_of : Limits → Talk → ℕ
@@ -62,18 +62,38 @@ talk_end limits start wanted t = min (silence_end limits wanted t) (total_end li
 -- the first time at which a tick does something
 abbrev pub wake_in : Limits → ℕ → Bool → Stage → ℕ
 wake_in limits start wanted NotChosen = never
-wake_in limits start wanted (Connecting a) = min (connect_end limits start) (next_at a)
+wake_in limits start wanted Resolving = total_end limits.total start
+wake_in limits start wanted (Connecting a) = min (connect_end limits start a.began) (next_at a)
 wake_in limits start wanted (Talking t) = talk_end limits start wanted t
 wake_in limits start wanted (Over ending) = never
 
--- ---- connecting
+-- ---- resolving
 
--- a connection is asked, with so many addresses, or it is not chosen; with no address it cannot be reached
-abbrev pub first_ruling : Option ℕ → ℕ → Ruling
-first_ruling None start = staying NotChosen
-first_ruling (Some zero) start = staying (Over endings.Connect)
-first_ruling (Some (suc more)) start =
-    record { stage = Connecting (first_attempts (suc more) start); tasks = Connect 0 ∷ [] }
+-- at the start, the name of a host that is chosen is to be resolved
+abbrev pub first_stage : Bool → Stage
+first_stage chosen = if chosen then Resolving else NotChosen
+
+-- the name has so many addresses: the first is tried; with none, the host cannot be reached
+abbrev pub resolved : ℕ → ℕ → Ruling
+resolved now zero = staying (Over endings.Connect)
+resolved now (suc more) = record { stage = Connecting (first_attempts (suc more) now); tasks = Connect 0 ∷ [] }
+
+-- what is told of a connection whose name was not resolved
+abbrev pub resolving_ruling : ℕ → Signal → Ruling
+resolving_ruling now (signals.Resolved addresses) = resolved now addresses
+resolving_ruling now signals.GiveUp = staying (Over endings.Turns)
+resolving_ruling now signals.Tick = staying (Over endings.Connect)
+resolving_ruling now (signals.Connected k) = staying Resolving
+resolving_ruling now (signals.Unreachable k) = staying Resolving
+resolving_ruling now (signals.NoSocket k) = staying Resolving
+resolving_ruling now (signals.Octets condition) = staying Resolving
+resolving_ruling now signals.Taken = staying Resolving
+resolving_ruling now signals.End = staying Resolving
+resolving_ruling now signals.Unreadable = staying Resolving
+resolving_ruling now signals.Unwritable = staying Resolving
+resolving_ruling now signals.Turn = staying Resolving
+
+-- ---- connecting
 
 -- this attempt is begun, if there is one
 abbrev pub beginning : ℕ → Option ℕ → Attempts → Ruling
@@ -111,7 +131,7 @@ winning limits now wanted k a =
 -- a time has come: the connection is given up, or its next attempt begins
 abbrev pub connecting_late : Limits → ℕ → ℕ → Attempts → Ruling
 connecting_late limits start now a =
-    if nat_le (connect_end limits start) now then giving_up endings.Connect a else beginning_next now a
+    if nat_le (connect_end limits start a.began) now then giving_up endings.Connect a else beginning_next now a
 
 -- what is told of a connection that has not connected
 abbrev pub connecting_ruling : Limits → ℕ → ℕ → Bool → Signal → Attempts → Ruling
@@ -123,6 +143,7 @@ connecting_ruling limits start now wanted (signals.NoSocket k) a =
     staying (Connecting (if is_open k a.states then with_waiting now k a else a))
 connecting_ruling limits start now wanted signals.GiveUp a = giving_up endings.Turns a
 connecting_ruling limits start now wanted signals.Tick a = connecting_late limits start now a
+connecting_ruling limits start now wanted (signals.Resolved addresses) a = staying (Connecting a)
 connecting_ruling limits start now wanted (signals.Octets condition) a = staying (Connecting a)
 connecting_ruling limits start now wanted signals.Taken a = staying (Connecting a)
 connecting_ruling limits start now wanted signals.End a = staying (Connecting a)
@@ -193,6 +214,7 @@ talking_ruling now wanted signals.Unwritable t = losing t
 talking_ruling now wanted signals.GiveUp t = ending_talk t (verdict t endings.Turns)
 talking_ruling now wanted signals.Tick t = ending_talk t (verdict t endings.Read)
 talking_ruling now wanted signals.Turn t = listening now wanted t
+talking_ruling now wanted (signals.Resolved addresses) t = staying (Talking t)
 talking_ruling now wanted (signals.Connected k) t = staying (Talking t)
 talking_ruling now wanted (signals.Unreachable k) t = staying (Talking t)
 talking_ruling now wanted (signals.NoSocket k) t = staying (Talking t)
@@ -202,6 +224,7 @@ talking_ruling now wanted (signals.NoSocket k) t = staying (Talking t)
 -- what is told of a connection at this stage; of one that is over or not chosen, it changes nothing
 abbrev pub ruling : Limits → ℕ → ℕ → Bool → Signal → Stage → Ruling
 ruling limits start now wanted what NotChosen = staying NotChosen
+ruling limits start now wanted what Resolving = resolving_ruling now what
 ruling limits start now wanted what (Connecting a) = connecting_ruling limits start now wanted what a
 ruling limits start now wanted what (Talking t) = talking_ruling now wanted what t
 ruling limits start now wanted what (Over ending) = staying (Over ending)

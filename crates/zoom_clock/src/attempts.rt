@@ -19,6 +19,8 @@ pub(crate) const ATTEMPT_DELAY: u64 = 250_000_000;
 /// The attempts to connect to a host, in the order of its addresses.
 #[derive(Drop)]
 pub struct Attempts {
+    /// When connecting began.
+    pub began: u64,
     /// The number of the attempt that was begun last.
     pub last: usize,
     /// Since when it is waited for, or for a socket.
@@ -28,15 +30,16 @@ pub struct Attempts {
 
 impl Attempts {
     /// The first attempt is begun. Returns `AllocError` if no memory is found.
-    pub fn new(alloc: Global, addresses: usize, start: u64) -> Result<Self, AllocError>
+    pub fn new(alloc: Global, addresses: usize, now: u64) -> Result<Self, AllocError>
         requires { 0 < addresses }
-        ensures { IfOk result (λ a. a ≡ first_attempts addresses start) }
+        ensures { IfOk result (λ a. a ≡ first_attempts addresses now) }
     {
         let mut states = AttemptList::new(alloc, addresses)?;
         states.set(0, Attempt::Open);
         Ok(Attempts {
+            began: now,
             last: 0,
-            since: start,
+            since: now,
             states,
         })
     }

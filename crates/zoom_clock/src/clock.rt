@@ -14,6 +14,7 @@ use std::collections::VecDeque;
 /// The courses of many connections. Times are nanoseconds of the caller's clock.
 #[derive(Drop)]
 pub struct Clock {
+    alloc: Global,
     /// By connection.
     courses: Vec<Course>,
     wakes: Wakes,
@@ -33,7 +34,7 @@ impl Clock {
     ghost use Rattle.std.specs.Prelude.{◌≡◌, ℕ, ◌+◌, ◌<◌, ◌≤◌, ◌^◌, ◌++◌, ◌∷◌, [], ◌↔◌, max, not, true, false, length, slice_get, IfOk, IfSome, IfNone, OnOk, Some, Contains, option_to_list};
     ghost use Rattle.zoom_clock.specs.declared.signal.Signal.TheVariants as signals;
     ghost use Rattle.zoom_clock.specs.Actions.{for_connection};
-    ghost use Rattle.zoom_clock.specs.Clocks.{IsOrderly, AfterNote, AfterTurns, AreSettled, SomeIsOpen, IsLeastWake, NoneIsDue, due_count, all_planned, planned_tasks};
+    ghost use Rattle.zoom_clock.specs.Clocks.{IsOrderly, AfterNote, AfterTurns, AreSettled, SomeIsOpen, IsLeastWake, NoneIsDue, due_count, all_planned};
     ghost use Rattle.zoom_clock.specs.Courses.{event, is_settled, wake_of};
     ghost use Rattle.zoom_clock.specs.Wakes.{IsDueAt};
 
@@ -47,25 +48,25 @@ impl Clock {
     ) -> Result<Self, AllocError>
         requires { length plans.now < 2 ^ 32 }
         ensures courses { IfOk result (λ k. k.courses.items ≡ all_planned start (not in_order) plans.now) }
-        ensures tasks { IfOk result (λ k. k.queue.items ≡ planned_tasks start 0 plans.now) }
+        ensures tasks { IfOk result (λ k. k.queue.items ≡ []) }
         ensures orderly { IfOk result (λ k. IsOrderly k) }
         ensures passed { IfOk result (λ k. k.passed ≡ start) }
         ensures in_order { IfOk result (λ k. k.in_order ≡ in_order) }
     {
         let mut courses = Vec::new(alloc);
-        let mut queue = VecDeque::new(alloc);
         let mut wakes = Wakes::new(alloc, plans.len() as u32)?;
         for c in 0..plans.len() {
             let plan = plans[c];
-            let course = first_course(alloc, c as u32, plan, start, !in_order, &mut queue)?;
+            let course = first_course(plan, start, !in_order);
             let time = course.wake_at();
             wakes.set(c as u32, time)?;
             courses.push(course)?;
         }
         Ok(Clock {
+            alloc,
             courses,
             wakes,
-            queue,
+            queue: VecDeque::new(alloc),
             passed: start,
             in_order,
             turn: 0,
@@ -120,7 +121,7 @@ impl Clock {
             → due_count at self.new + 1 ≡ due_count at self.old) }
     {
         let course = &mut self.courses[c as usize];
-        course.note(c, at, what, &mut self.queue)?;
+        course.note(self.alloc, c, at, what, &mut self.queue)?;
         let time = course.wake_at();
         self.wakes.set(c, time)?;
         Ok(())

@@ -1,7 +1,6 @@
 //! The course of a connection.
-ghost use Rattle.std.specs.Prelude.{◌≡◌, ◌++◌, max, IfOk, OnOk};
+ghost use Rattle.std.specs.Prelude.{◌≡◌, max, OnOk};
 ghost use Rattle.zoom_clock.specs.Actions.{AreAdded};
-ghost use Rattle.zoom_clock.specs.Stages.{first_ruling};
 ghost use Rattle.zoom_clock.specs.Courses.{event, first_course, step, tasks_of, wake_of, is_settled, is_idle, wanted_after};
 ghost use Rattle.zoom_clock.specs.Times.{IsTime};
 
@@ -26,33 +25,24 @@ pub struct Course {
 }
 
 impl Course {
-    /// A connection to a host with so many addresses, or one that is not chosen, from `start` on. Its tasks are added
-    /// to the queue, for connection `c`. Returns `AllocError` if no memory is found.
-    pub fn new(
-        alloc: Global,
-        c: u32,
-        limits: Limits,
-        addresses: Option<usize>,
-        start: u64,
-        wanted: bool,
-        queue: &mut VecDeque<Action>,
-    ) -> Result<Self, AllocError>
-        ensures course { IfOk result (λ p. p ≡ first_course limits addresses start wanted) }
-        ensures tasks { OnOk result (AreAdded c (first_ruling addresses start).tasks queue.old.items queue.new.items) }
+    /// A connection that is asked, or one that is not chosen, from `start` on.
+    pub fn new(limits: Limits, chosen: bool, start: u64, wanted: bool) -> Self
+        ensures { result ≡ first_course limits chosen start wanted }
     {
-        Ok(Course {
+        Course {
             limits,
             start,
             latest: start,
             wanted,
-            stage: Stage::first(alloc, c, addresses, start, queue)?,
-        })
+            stage: Stage::first(chosen),
+        }
     }
 
     /// Notes what was told of the connection at a time. What is to be done is added to the queue, for connection `c`.
     /// A time that goes back counts as the latest. Returns `AllocError` if no memory is found.
     pub fn note(
         &mut self,
+        alloc: Global,
         c: u32,
         at: u64,
         what: Signal,
@@ -72,7 +62,7 @@ impl Course {
             time: now,
             wanted: self.wanted,
         };
-        self.stage.note(&moment, what, queue)?;
+        self.stage.note(alloc, &moment, what, queue)?;
         self.latest = now;
         self.wanted = wanted_after(what, self.wanted);
         Ok(())

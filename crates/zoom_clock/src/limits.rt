@@ -5,7 +5,7 @@ ghost use Rattle.zoom_clock.specs.Times.{IsTime, total_end};
 /// How long to wait for a connection, in nanoseconds.
 #[derive(Clone, Copy, Debug, PartialEq, Eq)]
 pub struct Limits {
-    /// From the start until it has connected.
+    /// From when its name was resolved until it has connected.
     pub connect: u64,
     /// From its last sign of life, or from when it was first listened to, until the next sign.
     pub patience: u64,

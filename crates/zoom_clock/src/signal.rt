@@ -3,6 +3,8 @@
 /// What is told of a connection, at a time.
 #[derive(Clone, Copy, Debug, PartialEq, Eq)]
 pub enum Signal {
+    /// The name of the host was resolved to this many addresses. With none it cannot be reached.
+    Resolved(usize),
     /// The attempt of this number to connect succeeded.
     Connected(usize),
     /// The attempt of this number to connect failed.
@@ -41,7 +43,7 @@ pub enum Condition {
 /// How a connection has ended.
 #[derive(Clone, Copy, Debug, PartialEq, Eq)]
 pub enum Ending {
-    /// It could not be reached, or not in time.
+    /// It could not be reached, or not in time, or its name was not resolved in time.
     Connect,
     /// A read failed, or it was silent for too long, or the total was over.
     Read,

@@ -2,7 +2,7 @@
 ghost use Rattle.std.specs.Prelude.{◌≡◌, ◌++◌, true, IfOk, OnOk};
 ghost use Rattle.zoom_clock.specs.declared.stage.Stage.TheVariants.{Connecting, Talking};
 ghost use Rattle.zoom_clock.specs.Actions.{AreAdded};
-ghost use Rattle.zoom_clock.specs.Stages.{IsRuling, next_stage, first_ruling, beginning_next, failing, giving_up, reading, winning, connecting_late, connecting_ruling, ending_talk, hearing, losing, listening, verdict, talking_ruling, ruling, connect_end, wake_in};
+ghost use Rattle.zoom_clock.specs.Stages.{IsRuling, next_stage, first_stage, resolved, resolving_ruling, beginning_next, failing, giving_up, reading, winning, connecting_late, connecting_ruling, ending_talk, hearing, losing, listening, verdict, talking_ruling, ruling, connect_end, wake_in};
 ghost use Rattle.zoom_clock.specs.Attempts.{is_open, with_failed};
 ghost use Rattle.zoom_clock.specs.Times.{IsTime};
 
@@ -19,6 +19,8 @@ use std::collections::VecDeque;
 pub enum Stage {
     /// It is not asked.
     NotChosen,
+    /// The addresses of its host are not known yet.
+    Resolving,
     Connecting(Attempts),
     Talking(Talk),
     Over(Ending),
@@ -37,24 +39,14 @@ pub(crate) struct Moment {
 }
 
 impl Stage {
-    /// The stage at the start. Returns `AllocError` if no memory is found.
-    pub(crate) fn first(
-        alloc: Global,
-        c: u32,
-        addresses: Option<usize>,
-        start: u64,
-        queue: &mut VecDeque<Action>,
-    ) -> Result<Self, AllocError>
-        ensures { IfOk result (λ s. IsRuling (first_ruling addresses start) c s queue.old.items queue.new.items) }
+    /// The stage at the start.
+    pub(crate) fn first(chosen: bool) -> Self
+        ensures { result ≡ first_stage chosen }
     {
-        match addresses {
-            None => Ok(Stage::NotChosen),
-            Some(0) => Ok(Stage::Over(Ending::Connect)),
-            Some(count) => {
-                let attempts = Attempts::new(alloc, count, start)?;
-                put(queue, c, Task::Connect(0))?;
-                Ok(Stage::Connecting(attempts))
-            }
+        if chosen {
+            Stage::Resolving
+        } else {
+            Stage::NotChosen
         }
     }
 
@@ -63,8 +55,9 @@ impl Stage {
         ensures { IsTime (wake_in limits.now start wanted self.now) result }
     {
         match self {
+            Stage::Resolving => total_end(limits.total, start),
             Stage::Connecting(attempts) => earlier_of(
-                connect_end(limits, start),
+                connect_end(limits, start, attempts.began),
                 attempts.next_at(),
             ),
             Stage::Talking(talk) => talk.ends_at(limits, start, wanted),
@@ -75,6 +68,7 @@ impl Stage {
     /// What is told of the connection, by the rules.
     pub(crate) fn note(
         &mut self,
+        alloc: Global,
         at: &Moment,
         what: Signal,
         queue: &mut VecDeque<Action>,
@@ -84,6 +78,10 @@ impl Stage {
             self.new queue.old.items queue.new.items) }
     {
         match self {
+            Stage::Resolving => {
+                *self = note_resolving(alloc, at, what, queue)?;
+                Ok(())
+            }
             Stage::Connecting(attempts) => {
                 if let Some(stage) = note_connecting(at, what, attempts, queue)? {
                     *self = stage;
@@ -99,11 +97,49 @@ impl Stage {
     }
 }
 
-/// When a connection that has not connected is given up. `None` if no clock gets there.
-fn connect_end(limits: &Limits, start: u64) -> Option<u64>
-    ensures { IsTime (connect_end limits.now start) result }
+/// When a connection is given up that has not connected, if it began to connect at `began`. `None` if no clock gets
+/// there.
+fn connect_end(limits: &Limits, start: u64, began: u64) -> Option<u64>
+    ensures { IsTime (connect_end limits.now start began) result }
 {
-    earlier_of(later(start, limits.connect), total_end(limits.total, start))
+    earlier_of(later(began, limits.connect), total_end(limits.total, start))
+}
+
+// ---- resolving
+
+/// The name has so many addresses.
+fn resolve(
+    alloc: Global,
+    at: &Moment,
+    addresses: usize,
+    queue: &mut VecDeque<Action>,
+) -> Result<Stage, AllocError>
+    ensures { IfOk result (λ s. IsRuling (resolved at.now.time addresses) at.now.c s queue.old.items queue.new.items) }
+{
+    if addresses == 0 {
+        return Ok(Stage::Over(Ending::Connect));
+    }
+    let attempts = Attempts::new(alloc, addresses, at.time)?;
+    put(queue, at.c, Task::Connect(0))?;
+    Ok(Stage::Connecting(attempts))
+}
+
+/// What is told of a connection whose name was not resolved.
+fn note_resolving(
+    alloc: Global,
+    at: &Moment,
+    what: Signal,
+    queue: &mut VecDeque<Action>,
+) -> Result<Stage, AllocError>
+    ensures { IfOk result (λ s. IsRuling (resolving_ruling at.now.time what) at.now.c s
+        queue.old.items queue.new.items) }
+{
+    match what {
+        Signal::Resolved(addresses) => resolve(alloc, at, addresses, queue),
+        Signal::GiveUp => Ok(Stage::Over(Ending::Turns)),
+        Signal::Tick => Ok(Stage::Over(Ending::Connect)),
+        _ => Ok(Stage::Resolving),
+    }
 }
 
 // ---- connecting
@@ -195,7 +231,7 @@ fn note_late(
     ensures { IfOk result (λ s. IsRuling (connecting_late at.now.limits at.now.start at.now.time attempts.old)
         at.now.c (next_stage s attempts.new) queue.old.items queue.new.items) }
 {
-    if has_come(connect_end(&at.limits, at.start), at.time) {
+    if has_come(connect_end(&at.limits, at.start, attempts.began), at.time) {
         return Ok(Some(give_up(at, Ending::Connect, attempts, queue)?));
     }
     begin_next(at, attempts, queue)?;

@@ -5,11 +5,11 @@ use Rattle.zoom_clock.proofs.laws.early_laws.Goals as goal
 
 pub returns : goal.returns
 returns c = record {
-  connect = λ limits n start wanted es h. told_at limits n start wanted es (Over endings.Connect) h;
-  read = λ limits n start wanted es top h. told_at limits n start wanted es (Over endings.Read) h top;
-  write = λ limits n start wanted es h. told_at limits n start wanted es (Over endings.Write) h;
-  turns = λ limits n start wanted es h. told_at limits n start wanted es (Over endings.Turns) h;
-  input = λ limits n start wanted es h. told_at limits n start wanted es (Over endings.InputEnded) h;
-  finished = λ limits n start wanted es h. told_at limits n start wanted es (Over endings.Finished) h;
-  silent = λ limits n start wanted es t h. (told_at limits n start wanted es (Talking t) h).silent;
+  connect = λ limits start wanted es h. told_at limits start wanted es (Over endings.Connect) h;
+  read = λ limits start wanted es top h. told_at limits start wanted es (Over endings.Read) h top;
+  write = λ limits start wanted es h. told_at limits start wanted es (Over endings.Write) h;
+  turns = λ limits start wanted es h. told_at limits start wanted es (Over endings.Turns) h;
+  input = λ limits start wanted es h. told_at limits start wanted es (Over endings.InputEnded) h;
+  finished = λ limits start wanted es h. told_at limits start wanted es (Over endings.Finished) h;
+  silent = λ limits start wanted es t h. (told_at limits start wanted es (Talking t) h).silent;
 }

@@ -2,4 +2,4 @@ use Rattle.zoom_clock.proofs.Outcomes.{all_gone}
 use Rattle.zoom_clock.proofs.laws.leave_law.Goals as goal
 
 pub returns : goal.returns
-returns c limits n start k wanted es settled begun = all_gone limits n start wanted es k settled begun
+returns c limits start k wanted es settled begun = all_gone limits start wanted es k settled begun

@@ -2,4 +2,4 @@ use Rattle.zoom_clock.proofs.Readings.{reads_after}
 use Rattle.zoom_clock.proofs.laws.turn_law.Goals as goal
 
 pub returns : goal.returns
-returns c limits n start wanted es r = reads_after limits n start wanted es r
+returns c limits start wanted es r = reads_after limits start wanted es r

@@ -4,5 +4,5 @@ use Rattle.zoom_clock.proofs.stage.connect_end.Goals as goal
 
 pub returns : goal.returns
 returns c =
-    c.earlier_of.ensures (c.args.start + c.args.limits.now.connect) (total_end c.args.limits.now.total c.args.start)
+    c.earlier_of.ensures (c.args.began + c.args.limits.now.connect) (total_end c.args.limits.now.total c.args.start)
     c.later.ensures c.total_end.ensures

@@ -4,4 +4,5 @@ use Rattle.zoom_asking.proofs.TalkedOn.{quietly}
 use Rattle.zoom_asking.proofs.asking.Asking.end.Goals as goal
 
 pub returns-clause-talked : goal.returns-clause-talked
-returns-clause-talked c = quietly c.args.c (IsClosed c.args.ending) false c.args.self.now _ refl refl c.in_ok-close.ensures.closed
+returns-clause-talked c =
+    quietly c.args.c (IsClosed c.args.ending) false c.args.self.now _ refl refl c.in_ok-close.ensures.closed

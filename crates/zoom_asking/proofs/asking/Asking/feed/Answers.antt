@@ -9,6 +9,7 @@ returns-in-None-clause-fed c =
 
 pub returns-in_ok-tell-in-Some-clause-fed : goal.returns-in_ok-tell-in-Some-clause-fed
 returns-in_ok-tell-in-Some-clause-fed c =
-    fed c.args.c c.args.at c.args.piece.now c.args.self.now c.hear.new.self c.tell.new.self c.course.result.now c.in-Some.lost
-    c.in_ok-condition-in-Some.condition c.course.ensures (sym c.lost_of.ensures ∙ c.in-Some.is)
-    c.in_ok-condition-in-Some.ensures.talked c.in_ok-condition-in-Some.ensures.condition c.in_ok-tell-in-Some.ensures.told
+    fed c.args.c c.args.at c.args.piece.now c.args.self.now c.hear.new.self c.tell.new.self c.course.result.now
+    c.in-Some.lost c.in_ok-condition-in-Some.condition c.course.ensures (sym c.lost_of.ensures ∙ c.in-Some.is)
+    c.in_ok-condition-in-Some.ensures.talked c.in_ok-condition-in-Some.ensures.condition
+    c.in_ok-tell-in-Some.ensures.told

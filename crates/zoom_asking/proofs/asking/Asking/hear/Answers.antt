@@ -14,7 +14,9 @@ returns-clause-talked c =
     talked_on c.args.c (IsHeard c.args.piece.now) c.args.lost old _ before after c.len-waited.result c.len-waits.result
     c.is_to_send.result
     (slice_get_read old.unsent.items (length old.unsent.items) c.args.c before refl lt c.index_mut-unsent.ensures.value)
-    (ap (λ u. u.items) c.in_ok-send_if.ensures.unsent) (c.len-waited.ensures ∙ before.ok.0) (c.len-waits.ensures ∙ after.ok.0)
-    (subst (λ m. IsExtended c.args.c (IsHeard c.args.piece.now) old.meta m before.items after.items) (sym c.in_ok-send_if.ensures.meta)
+    (ap (λ u. u.items) c.in_ok-send_if.ensures.unsent) (c.len-waited.ensures ∙ before.ok.0)
+    (c.len-waits.ensures ∙ after.ok.0)
+    (subst (λ m. IsExtended c.args.c (IsHeard c.args.piece.now) old.meta m before.items after.items)
+    (sym c.in_ok-send_if.ensures.meta)
     c.in_ok-hear.ensures.heard)
     c.is_to_send.ensures c.in_ok-send_if.ensures.put

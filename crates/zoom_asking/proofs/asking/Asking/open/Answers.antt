@@ -11,9 +11,11 @@ returns-clause-talked c =
     let before = c.index_mut-unsent.result.now in
     let after = c.drive.new.unsent in
     let lt : c.args.c < length old.unsent.items = let h = old.held in let r = c.requires in omega arith in
-    talked_on c.args.c IsDriven false old c.send_if.new.self before after c.len-waited.result c.len-waits.result c.is_to_send.result
+    talked_on c.args.c IsDriven false old c.send_if.new.self before after c.len-waited.result c.len-waits.result
+    c.is_to_send.result
     (slice_get_read old.unsent.items (length old.unsent.items) c.args.c before refl lt c.index_mut-unsent.ensures.value)
-    (ap (λ u. u.items) c.in_ok-send_if.ensures.unsent) (c.len-waited.ensures ∙ before.ok.0) (c.len-waits.ensures ∙ after.ok.0)
+    (ap (λ u. u.items) c.in_ok-send_if.ensures.unsent) (c.len-waited.ensures ∙ before.ok.0)
+    (c.len-waits.ensures ∙ after.ok.0)
     (subst (λ m. IsExtended c.args.c IsDriven old.meta m before.items after.items) (sym c.in_ok-send_if.ensures.meta)
     c.in_ok-drive.ensures.driven)
     c.is_to_send.ensures c.in_ok-send_if.ensures.put

@@ -9,5 +9,6 @@ pub returns-in-Connecting : goal.returns-in-Connecting
 returns-in-Connecting c =
     subst (λ (s : Stage). IsTime (wake_in c.args.limits.now c.args.start c.args.wanted s) c.earlier_of.result)
     (sym c.in-Connecting.is)
-    (c.earlier_of.ensures (connect_end c.args.limits.now c.args.start) (next_at c.in-Connecting.attempts)
+    (c.earlier_of.ensures (connect_end c.args.limits.now c.args.start c.in-Connecting.attempts.began)
+    (next_at c.in-Connecting.attempts)
     c.connect_end.ensures c.next_at.ensures)
