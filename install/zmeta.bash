@@ -5,7 +5,7 @@ _zmeta_syntaxes='marc21 unimarc xml sutrs opac grs1'
 _zmeta_terms='--title --author --subject --isbn --any'
 _zmeta_search="$_zmeta_terms --query --records --elements --syntax"
 _zmeta_views='--titles --json --hex'
-_zmeta_limits='--patience --within'
+_zmeta_limits='--connect --patience --within --ipv4 --ipv6'
 
 # Files, where $1 stands before their names in the word, and $2 is what is typed of a name.
 _zmeta_files() {
@@ -30,6 +30,7 @@ _zmeta_may() {
         --title | --author | --subject | --isbn | --any) excluded=--query ;;
         --query) excluded="--query $_zmeta_terms" ;;
         --titles | --json | --hex) excluded=$_zmeta_views ;;
+        --ipv4 | --ipv6) excluded='--ipv4 --ipv6 -4 -6' ;;
         *) excluded=$1 ;;
     esac
     for other in $excluded; do

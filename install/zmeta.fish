@@ -1,7 +1,7 @@
 # fish completion for zmeta
 
 # The options that have a value.
-set -g __zmeta_valued --patience --within --only --title --author --subject --isbn --any --query --records --elements \
+set -g __zmeta_valued --connect --patience --within --only --title --author --subject --isbn --any --query --records --elements \
     --syntax --save
 
 # The words before the cursor that are no options, the command first.
@@ -75,10 +75,16 @@ complete -c zmeta -n 'not __zmeta_in help' -s h -l help -d 'Print help'
 complete -c zmeta -n __zmeta_first -s V -l version -d 'Print version'
 complete -c zmeta -n '__zmeta_in ask; and __zmeta_lacks --at-once' -l at-once \
     -d 'Asks all catalogues at once, and not one after the other'
+complete -c zmeta -n '__zmeta_in ask; and __zmeta_lacks --connect' -l connect -x \
+    -d 'Gives up a catalogue that takes so long to connect; else as --patience says'
 complete -c zmeta -n '__zmeta_in ask; and __zmeta_lacks --patience' -l patience -x \
-    -d 'Gives up a catalogue that is silent for so long, or cannot be reached; else 30'
+    -d 'Gives up a catalogue that is silent for so long, or not connected; else 30'
 complete -c zmeta -n '__zmeta_in ask; and __zmeta_lacks --within' -l within -x \
     -d 'Gives up each catalogue that is not done within so many seconds of the start'
+complete -c zmeta -n '__zmeta_in ask; and __zmeta_lacks -4 --ipv4 -6 --ipv6' -s 4 -l ipv4 \
+    -d 'Connects to addresses of IPv4 alone'
+complete -c zmeta -n '__zmeta_in ask; and __zmeta_lacks -4 --ipv4 -6 --ipv6' -s 6 -l ipv6 \
+    -d 'Connects to addresses of IPv6 alone'
 complete -c zmeta -n '__zmeta_in ask' -l only -x \
     -d 'Asks just the question of this name; may be given several times'
 complete -c zmeta -n '__zmeta_in ask run loop; and __zmeta_lacks --query' -l title -x \

@@ -23,6 +23,7 @@ import hosts
 import json_lines
 import marc_made
 import marc_views
+import names
 import replies
 import served
 import streams
@@ -157,6 +158,9 @@ def main():
         found, count, again = hosts.faults(ZMETA, room)
         faults += found
         print(f"program: {count} runs that ask hosts over TCP, and {again} again")
+        found, count = names.faults(ZMETA, room)
+        faults += found
+        print(f"program: {count} runs that ask hosts by name")
         found, count = replies.faults(ZMETA, room)
         faults += found
         print(f"program: {count} hosts, whose replies are accepted or refused")

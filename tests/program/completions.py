@@ -20,7 +20,7 @@ def offered(room, words):
 
 def options_in(text):
     """The long options that a help describes, each at the beginning of its line."""
-    return sorted(re.findall(r"^ +(?:-\w, )?(--[a-z-]+)", text, re.M))
+    return sorted(re.findall(r"^ +(?:-\w, )?(--[a-z0-9-]+)", text, re.M))
 
 
 def fault_of_row(room, row):

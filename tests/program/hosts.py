@@ -12,6 +12,7 @@ import asyncio
 import errno
 import os
 import socket
+import struct
 import subprocess
 import sys
 import tempfile
@@ -114,6 +115,42 @@ async def broken_off(talk):
     talk.stream.write_eof()
 
 
+async def without_close(talk):
+    """Answers all but the Close, which it ignores."""
+    talk.stream.write(b"".join(talk.host.replies[:-1]))
+
+
+def reset(talk):
+    """Ends the connection by a reset."""
+    talk.stream.get_extra_info("socket").setsockopt(socket.SOL_SOCKET, socket.SO_LINGER, struct.pack("ii", 1, 0))
+    talk.stream.abort()
+
+
+async def reset_at_close(talk):
+    """Answers all but the Close, at which it resets the connection."""
+    await without_close(talk)
+    await talk.requests(len(talk.host.replies))
+    reset(talk)
+
+
+async def close_unread(talk):
+    """Answers all but the Close, and closes the connection while that is not read."""
+    *most, last, _ = talk.host.replies
+    talk.stream.write(b"".join(most))
+    await talk.requests(len(most) + 1)
+    talk.stream.pause_reading()
+    talk.stream.write(last)
+    await asyncio.sleep(DELAY)
+    talk.stream.abort()
+
+
+async def reset_in_advance(talk):
+    """Answers all before it is asked, and resets the connection. What it is sent then cannot be written."""
+    await talk.requests(1)
+    talk.stream.write(b"".join(talk.host.replies))
+    reset(talk)
+
+
 class Talk(asyncio.Protocol):
     """A connection to a host: the octets that came, and the times at which requests were all there."""
 
@@ -135,7 +172,7 @@ class Talk(asyncio.Protocol):
 
     def connection_lost(self, exc):
         self.giving.cancel()
-        self.is_over = True
+        self.is_over, self.ended = True, time.monotonic()
 
     async def requests(self, count):
         """Waits for so many requests."""
@@ -211,6 +248,11 @@ KINDS = {
     "slow": (None, "answered", partial(one_by_one, pause=DELAY)),
     "pieces": (None, "answered", partial(in_pieces, size=3, pause=PAUSE)),
     "five-parts": (None, "answered", partial(in_pieces, size=50, pause=REST)),
+    # it has all been answered, so that none of these has failed; the last two are not sent all, or it cannot be seen
+    "ignoring-close": (None, "answered", without_close),
+    "resetting-at-close": (None, "answered", reset_at_close),
+    "closing-unread": (5, "answered", close_unread),
+    "resetting-in-advance": (1, "answered", reset_in_advance),
     "great": (None, "answered"),
     "page": (None, "answered", one_by_one),
     # as the first, if the time for all is over before the host is talked with
@@ -304,6 +346,11 @@ def is_ordered(run):
     return max(inits) < min(searches) and all(one < other for one, other in befores)
 
 
+def is_left_at_once(run):
+    """no host waits for another to be left: each sees the end of its connection within 50 ms of its Close"""
+    return all(it.talks[0].ended < it.talks[0].times[-1] + 0.05 for it in run.hosts if it.outcome == "answered")
+
+
 # kinds of hosts in the order of their questions, options, ways to ask, the least and the longest time, and what else has to hold
 
 Case = namedtuple("Case", "kinds options ways least most holds", defaults=((), BOTH, 0, END, None))
@@ -311,7 +358,13 @@ Case = namedtuple("Case", "kinds options ways least most holds", defaults=((), B
 EVERY = "no-port full whole nobody silent one-by-one ending great-port refusing pieces stalling closing slow no-address no-name"
 PATIENCE, WITHIN = ("--patience", "1"), ("--within", "1")
 THREE, TWO = ("--patience", "3"), ("--patience", "1", "--within", "2")
-QUICK = [Case("slow slow slow", holds=is_ordered), Case("great page great page"), Case("closing one-by-one"), Case("")]
+QUICK = [
+    Case("slow slow slow", holds=is_ordered),
+    Case("great page great page"),
+    Case("closing one-by-one"),
+    Case("resetting-at-close closing-unread resetting-in-advance whole", (), BOTH, 0, 2),
+    Case(""),
+]
 LONG = [
     Case("whole silent one-by-one", PATIENCE, BOTH, 1, 2),
     Case("silent whole pieces", PATIENCE, BOTH, 1, 2),
@@ -322,6 +375,12 @@ LONG = [
     Case("full whole", WITHIN, [AT_ONCE], 1, 2),
     Case("full late", WITHIN, [IN_ORDER], 1, 2),
     Case("trickling whole one-by-one", TWO, [AT_ONCE], 2, 3),
+    Case("trickling " + "one-by-one " * 20, TWO, [AT_ONCE], 2, 3, is_left_at_once),
+    # a Close is waited for no longer than two seconds
+    Case("ignoring-close whole", (), BOTH, 2, 2.5),
+    # connecting has a limit of its own
+    Case("full whole", ("--connect", "1"), BOTH, 1, 2),
+    Case("silent whole", ("--connect", "3", "--patience", "1"), BOTH, 1, 2),
     Case("whole one-by-one trickling", TWO, BOTH, 2, 3),
     Case("whole trickling late", TWO, [IN_ORDER], 2, 3),
     # a host that is never silent for a second is not given up
@@ -397,16 +456,10 @@ class Trials:
         return found
 
     async def faults_of_many(self, files, at_once):
-        """What is not as it should be of many hosts, and so many open files. If there are too few, the hosts for whom no descriptor was
-        found have failed for `Connect`. The program has few other descriptors: three streams, a poll, and perhaps the world file."""
+        """What is not as it should be of many hosts, and so many open files. If there are fewer, hosts wait for a descriptor, and all are
+        asked."""
         hosts = hosts_of("whole " * MANY)
-        run = await self.run(hosts, (), at_once, files)
-        for it in hosts:
-            if files < MANY and f'"{it.name}": Connect\n' in run.answer[2]:
-                it.requests, it.outcome = KINDS["nobody"][:2]
-        reached = sum(it.outcome == "answered" for it in hosts)
-        least, most = min(MANY, files - 10), min(MANY, files - 3)
-        return faults_of_answer(run, hosts) + ([] if least <= reached <= most else [f"{reached} of {MANY} hosts are reached"])
+        return faults_of_answer(await self.run(hosts, (), at_once, files), hosts)
 
 
 def faults_of_answer(run, asked, due=None):

@@ -7,6 +7,7 @@ use Rattle.clap.specs.declared.parser.matches.Found.{Found}
 use Rattle.zmeta_args.specs.declared.arguments.View.{View}
 use Rattle.zmeta_args.specs.declared.arguments.View.TheVariants as views
 use Rattle.zmeta_args.specs.declared.arguments.SearchOptions.{SearchOptions}
+use Rattle.zmeta_args.specs.declared.arguments.LimitOptions.{LimitOptions}
 use Rattle.zmeta_args.specs.declared.arguments.Arguments.{Arguments}
 use Rattle.zmeta_args.specs.declared.arguments.Arguments.TheVariants.{Show, Pqf, Join, Records, Run, Ask, Loop, Serve}
 use Rattle.zmeta_args.specs.Texts.{texts_of, now_of}
@@ -68,6 +69,14 @@ pub record HasView (found : Found) (view : View) : Type 0 where
   pub left_out : IsLeftOut found (codes "titles") → IsLeftOut found (codes "json") → IsLeftOut found (codes "hex")
       → view ≡ views.Text
 
+-- how long catalogues are waited for, and over which addresses they are asked: the values of these options
+pub record HasLimits (found : Found) (l : LimitOptions) : Type 0 where
+  pub connect : HasSeconds found (codes "connect") l.connect
+  pub patience : HasSeconds found (codes "patience") l.patience
+  pub within : HasSeconds found (codes "within") l.within
+  pub only_v4 : HasFlag found (codes "ipv4") l.only_v4
+  pub only_v6 : HasFlag found (codes "ipv6") l.only_v6
+
 -- what is put to every question: the values of these options
 pub record HasSearch (found : Found) (s : SearchOptions) : Type 0 where
   pub query : now_of s.query ≡ first_value found (codes "query")
@@ -97,10 +106,10 @@ AreArgumentsOf name found (Records first others only syntax conflicts) =
     × (now_of syntax ≡ first_value found (codes "syntax")) × HasFlag found (codes "conflicts") conflicts
 AreArgumentsOf name found (Run world saved search view) =
     (name ≡ codes "run") × HasWorld found world.now (now_of saved) search view
-AreArgumentsOf name found (Ask world saved at_once only patience within search view) =
+AreArgumentsOf name found (Ask world saved at_once only limits search view) =
     (name ≡ codes "ask") × HasWorld found world.now (now_of saved) search view
     × HasFlag found (codes "at-once") at_once × HasValues found (codes "only") (texts_of only.items)
-    × HasSeconds found (codes "patience") patience × HasSeconds found (codes "within") within
+    × HasLimits found limits
 AreArgumentsOf name found (Loop world saved search view) =
     (name ≡ codes "loop") × HasWorld found world.now (now_of saved) search view
 AreArgumentsOf name found (Serve address whose world count) =

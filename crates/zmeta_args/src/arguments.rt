@@ -4,7 +4,7 @@ ghost use Rattle.std.specs.Prelude.{◌≡◌, IfOk, IfSome, codes, map, option_
 ghost use Rattle.clap.specs.Words.{kind_of, found_of};
 ghost use Rattle.clap.specs.declared.error.kind.ErrorKind.TheVariants.{InvalidValue};
 ghost use Rattle.zmeta_args.specs.Texts.{texts_of};
-ghost use Rattle.zmeta_args.specs.Arguments.{IsParsed, AreArgumentsOf, HasValues, HasSeconds, HasSearch, HasView};
+ghost use Rattle.zmeta_args.specs.Arguments.{IsParsed, AreArgumentsOf, HasValues, HasSeconds, HasLimits, HasSearch, HasView};
 
 use crate::forms::command;
 use clap::error::ErrorKind;
@@ -48,6 +48,21 @@ pub struct SearchOptions<'a> {
     pub syntax: Option<&'a str>,
 }
 
+/// How long catalogues are waited for, in seconds, and over which addresses they are asked.
+#[derive(Clone, Copy, Debug, PartialEq, Eq, Drop)]
+pub struct LimitOptions {
+    /// How long connecting to one may take.
+    pub connect: Option<u32>,
+    /// How long one may be silent.
+    pub patience: Option<u32>,
+    /// How long everything may take.
+    pub within: Option<u32>,
+    /// Whether addresses of IPv4 alone are used.
+    pub only_v4: bool,
+    /// Whether addresses of IPv6 alone are used.
+    pub only_v6: bool,
+}
+
 /// A command of the program, with its arguments.
 #[derive(Debug, Drop)]
 pub enum Arguments<'a> {
@@ -80,16 +95,13 @@ pub enum Arguments<'a> {
         conflicts: bool,
     },
     /// Ask the hosts of a world file over TCP, at once or one after the other, and print the list. Only questions
-    /// to these names are asked, or all if `only` is empty. Save the facts if `saved` is a path. `patience` is the
-    /// longest time for connecting to all hosts and the longest that one may be silent, `within` the longest time for
-    /// everything, in seconds.
+    /// to these names are asked, or all if `only` is empty. Save the facts if `saved` is a path.
     Ask {
         world: &'a str,
         saved: Option<&'a str>,
         at_once: bool,
         only: Vec<&'a str>,
-        patience: Option<u32>,
-        within: Option<u32>,
+        limits: LimitOptions,
         search: SearchOptions<'a>,
         view: View,
     },
@@ -248,8 +260,7 @@ fn asks_of<'a>(alloc: Global, found: &ArgMatches<'a>) -> Result<Option<Arguments
         saved: found.get_str("save"),
         at_once: found.get_flag("at-once"),
         only,
-        patience: seconds_of(found, "patience"),
-        within: seconds_of(found, "within"),
+        limits: limits_of(found),
         search,
         view: view_of(found),
     }))
@@ -285,6 +296,19 @@ fn loops_of<'a>(alloc: Global, found: &ArgMatches<'a>) -> Result<Option<Argument
         search,
         view: view_of(found),
     }))
+}
+
+/// Returns how long catalogues are waited for, and over which addresses they are asked.
+fn limits_of(found: &ArgMatches<'_>) -> LimitOptions
+    ensures { HasLimits (found_of found.now) result }
+{
+    LimitOptions {
+        connect: seconds_of(found, "connect"),
+        patience: seconds_of(found, "patience"),
+        within: seconds_of(found, "within"),
+        only_v4: found.get_flag("ipv4"),
+        only_v6: found.get_flag("ipv6"),
+    }
 }
 
 /// Returns a number of seconds, if the option is given.

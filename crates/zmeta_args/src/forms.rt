@@ -1,9 +1,9 @@
 //! The forms of the command line: its commands with their arguments and options, and their help.
 
 use crate::options::{
-    ANY, ASKED_SYNTAX, AT_ONCE, AUTHOR, CONFLICTS, CommandOption, ELEMENTS, HEX, ISBN, JSON, ONLY,
-    ONLY_OF, PATIENCE, QUERY, RECORDS as RECORDS_WANTED, SAVE, SUBJECT, SYNTAX, TITLE, TITLES,
-    WITHIN, option,
+    ANY, ASKED_SYNTAX, AT_ONCE, AUTHOR, CONFLICTS, CONNECT, CommandOption, ELEMENTS, HEX, IPV4,
+    IPV6, ISBN, JSON, ONLY, ONLY_OF, PATIENCE, QUERY, RECORDS as RECORDS_WANTED, SAVE, SUBJECT,
+    SYNTAX, TITLE, TITLES, WITHIN, option,
 };
 use clap::{Arg, ArgAction, Command, value_parser};
 use std::alloc::{AllocError, Global};
@@ -221,13 +221,15 @@ const ASK: Form = Form {
 Connects to all of them side by side, asks each, and prints one list of all
 that they answer. A catalogue that cannot be reached, or is silent for 30
 seconds (--patience), gets a line on standard error, and the others are listed:
-status 1. With --at-once no catalogue waits for another, and --within limits
-the time for all together. With --only just the questions of these names are
-asked, so that saved files of parts can be joined; status 3 where there is no
-such question. One search for all: --title, --author, --subject, --isbn and
---any, or --query, are asked in place of the queries of FILE, and --records,
---elements and --syntax in place of what its lines say. SYNTAX is marc21,
-unimarc, xml, sutrs, opac, grs1, an object identifier, or - for none.
+status 1. With --at-once no catalogue waits for another. --connect limits the
+time for connecting to a catalogue, --within that for all together, and -4 and
+-6 use addresses of IPv4 or of IPv6 alone. With --only just the questions of
+these names are asked, so that saved files of parts can be joined; status 3
+where there is no such question. One search for all: --title, --author,
+--subject, --isbn and --any, or --query, are asked in place of the queries of
+FILE, and --records, --elements and --syntax in place of what its lines say.
+SYNTAX is marc21, unimarc, xml, sutrs, opac, grs1, an object identifier, or -
+for none.
 
 Example, a file with the two lines
   host loc lx2.loc.gov:210
@@ -239,8 +241,11 @@ or, with another question and the same file, by
     wants: &[WORLD],
     may: &[
         AT_ONCE,
+        CONNECT,
         PATIENCE,
         WITHIN,
+        IPV4,
+        IPV6,
         ONLY,
         TITLE,
         AUTHOR,
@@ -263,8 +268,9 @@ const SERVE: Form = Form {
     about: "Serves a catalogue in memory to other programs",
     example: "ADDRESS is where connections are taken, as localhost:9999. FILE describes
 catalogues in memory, as 'zmeta help run' says, and NAME is one of them. N
-connections are taken, one after the other. Status 3 with 'cannot serve' where
-there is no such catalogue, or the address cannot be taken.
+connections are taken, one after the other: it answers one client at a time, and
+is made for practice. Status 3 with 'cannot serve' where there is no such
+catalogue, or the address cannot be taken.
 
 Example, one client asks the catalogue of a city library:
   zmeta serve localhost:9999 'city library' world 1",

@@ -5,4 +5,4 @@ mod arguments;
 mod forms;
 mod options;
 
-pub use arguments::{Arguments, SearchOptions, View, odd_arguments, parse};
+pub use arguments::{Arguments, LimitOptions, SearchOptions, View, odd_arguments, parse};

@@ -2,201 +2,256 @@
 use clap::{Arg, ArgAction, value_parser};
 use std::alloc::{AllocError, Global};
 
-/// The longest time that an option takes, in seconds.
-const MOST_SECONDS: i64 = 3600;
+/// The seconds of an hour.
+const HOUR: i64 = 3600;
+
+/// The seconds of a day.
+const DAY: i64 = 86_400;
 
 /// An option of a command.
 #[derive(Clone, Copy)]
 pub(crate) struct CommandOption {
     id: &'static str,
+    /// Its short form, if it has one.
+    short: Option<char>,
     help: &'static str,
     /// The name of its value in the help, if it has a value.
     value: Option<&'static str>,
     /// Whether it may be given more than once.
     is_many: bool,
-    /// Whether its value is a number of seconds.
-    is_seconds: bool,
+    /// The most seconds that it takes, if its value is a number of seconds.
+    most_seconds: Option<i64>,
     /// The options that may not be given together with it.
     excludes: &'static [&'static str],
 }
 
 pub(crate) const HEX: CommandOption = CommandOption {
     id: "hex",
+    short: None,
     help: "Prints the octets of records in hexadecimal",
     value: None,
     is_many: false,
-    is_seconds: false,
+    most_seconds: None,
     excludes: &[],
 };
 
 pub(crate) const TITLES: CommandOption = CommandOption {
     id: "titles",
+    short: None,
     help: "Prints years and titles, to be read, in place of the list",
     value: None,
     is_many: false,
-    is_seconds: false,
+    most_seconds: None,
     excludes: &["hex", "json"],
 };
 
 pub(crate) const JSON: CommandOption = CommandOption {
     id: "json",
+    short: None,
     help: "Prints a JSON object a line, for programs, in place of the list",
     value: None,
     is_many: false,
-    is_seconds: false,
+    most_seconds: None,
     excludes: &["hex"],
 };
 
 pub(crate) const QUERY: CommandOption = CommandOption {
     id: "query",
+    short: None,
     help: "Asks every catalogue this query (PQF), in place of the file's",
     value: Some("PQF"),
     is_many: false,
-    is_seconds: false,
+    most_seconds: None,
     excludes: &["title", "author", "subject", "isbn", "any"],
 };
 
 pub(crate) const TITLE: CommandOption = CommandOption {
     id: "title",
+    short: None,
     help: "Asks every catalogue for this in a title; may be given several times, and all terms must match",
     value: Some("TEXT"),
     is_many: true,
-    is_seconds: false,
+    most_seconds: None,
     excludes: &[],
 };
 
 pub(crate) const AUTHOR: CommandOption = CommandOption {
     id: "author",
+    short: None,
     help: "Asks every catalogue for this author; may be given several times",
     value: Some("TEXT"),
     is_many: true,
-    is_seconds: false,
+    most_seconds: None,
     excludes: &[],
 };
 
 pub(crate) const SUBJECT: CommandOption = CommandOption {
     id: "subject",
+    short: None,
     help: "Asks every catalogue for this subject; may be given several times",
     value: Some("TEXT"),
     is_many: true,
-    is_seconds: false,
+    most_seconds: None,
     excludes: &[],
 };
 
 pub(crate) const ISBN: CommandOption = CommandOption {
     id: "isbn",
+    short: None,
     help: "Asks every catalogue for this ISBN; may be given several times",
     value: Some("TEXT"),
     is_many: true,
-    is_seconds: false,
+    most_seconds: None,
     excludes: &[],
 };
 
 pub(crate) const ANY: CommandOption = CommandOption {
     id: "any",
+    short: None,
     help: "Asks every catalogue for this anywhere in a record; may be given several times",
     value: Some("TEXT"),
     is_many: true,
-    is_seconds: false,
+    most_seconds: None,
     excludes: &[],
 };
 
 pub(crate) const RECORDS: CommandOption = CommandOption {
     id: "records",
+    short: None,
     help: "Asks every catalogue for these records: a number, or positions as 1-3,10-12",
     value: Some("WANT"),
     is_many: false,
-    is_seconds: false,
+    most_seconds: None,
     excludes: &[],
 };
 
 pub(crate) const ELEMENTS: CommandOption = CommandOption {
     id: "elements",
+    short: None,
     help: "Asks every catalogue for records of this element set, as F (full) or B (brief)",
     value: Some("NAME"),
     is_many: false,
-    is_seconds: false,
+    most_seconds: None,
     excludes: &[],
 };
 
 pub(crate) const ASKED_SYNTAX: CommandOption = CommandOption {
     id: "syntax",
+    short: None,
     help: "Asks every catalogue for records of this syntax: a name as marc21, or an OID",
     value: Some("SYNTAX"),
     is_many: false,
-    is_seconds: false,
+    most_seconds: None,
     excludes: &[],
 };
 
 pub(crate) const SAVE: CommandOption = CommandOption {
     id: "save",
+    short: None,
     help: "Saves what was brought, in the file OUT",
     value: Some("OUT"),
     is_many: false,
-    is_seconds: false,
+    most_seconds: None,
     excludes: &[],
 };
 
 pub(crate) const AT_ONCE: CommandOption = CommandOption {
     id: "at-once",
+    short: None,
     help: "Asks all catalogues at once, and not one after the other",
     value: None,
     is_many: false,
-    is_seconds: false,
+    most_seconds: None,
+    excludes: &[],
+};
+
+pub(crate) const CONNECT: CommandOption = CommandOption {
+    id: "connect",
+    short: None,
+    help: "Gives up a catalogue that takes so long to connect; else as --patience says",
+    value: Some("SECONDS"),
+    is_many: false,
+    most_seconds: Some(HOUR),
+    excludes: &[],
+};
+
+pub(crate) const IPV4: CommandOption = CommandOption {
+    id: "ipv4",
+    short: Some('4'),
+    help: "Connects to addresses of IPv4 alone",
+    value: None,
+    is_many: false,
+    most_seconds: None,
+    excludes: &["ipv6"],
+};
+
+pub(crate) const IPV6: CommandOption = CommandOption {
+    id: "ipv6",
+    short: Some('6'),
+    help: "Connects to addresses of IPv6 alone",
+    value: None,
+    is_many: false,
+    most_seconds: None,
     excludes: &[],
 };
 
 pub(crate) const PATIENCE: CommandOption = CommandOption {
     id: "patience",
-    help: "Gives up a catalogue that is silent for so long, or cannot be reached; else 30",
+    short: None,
+    help: "Gives up a catalogue that is silent for so long, or not connected; else 30",
     value: Some("SECONDS"),
     is_many: false,
-    is_seconds: true,
+    most_seconds: Some(HOUR),
     excludes: &[],
 };
 
 pub(crate) const WITHIN: CommandOption = CommandOption {
     id: "within",
+    short: None,
     help: "Gives up each catalogue that is not done within so many seconds of the start",
     value: Some("SECONDS"),
     is_many: false,
-    is_seconds: true,
+    most_seconds: Some(DAY),
     excludes: &[],
 };
 
 pub(crate) const ONLY: CommandOption = CommandOption {
     id: "only",
+    short: None,
     help: "Asks just the question of this name; may be given several times",
     value: Some("NAME"),
     is_many: true,
-    is_seconds: false,
+    most_seconds: None,
     excludes: &[],
 };
 
 pub(crate) const SYNTAX: CommandOption = CommandOption {
     id: "syntax",
+    short: None,
     help: "Writes just the records of this syntax: a name as marc21, or an OID",
     value: Some("SYNTAX"),
     is_many: false,
-    is_seconds: false,
+    most_seconds: None,
     excludes: &[],
 };
 
 pub(crate) const ONLY_OF: CommandOption = CommandOption {
     id: "only",
+    short: None,
     help: "Writes just the records of this catalogue; may be given several times",
     value: Some("NAME"),
     is_many: true,
-    is_seconds: false,
+    most_seconds: None,
     excludes: &[],
 };
 
 pub(crate) const CONFLICTS: CommandOption = CommandOption {
     id: "conflicts",
+    short: None,
     help: "Writes all records of a position for which several are known",
     value: None,
     is_many: false,
-    is_seconds: false,
+    most_seconds: None,
     excludes: &[],
 };
 
@@ -215,10 +270,13 @@ fn action_of(extra: &CommandOption) -> ArgAction {
 pub(crate) fn option(alloc: Global, extra: &CommandOption) -> Result<Arg<'static>, AllocError> {
     let option = Arg::new(alloc, extra.id).long(extra.id).help(extra.help);
     let option = option.action(action_of(extra));
-    let option = if extra.is_seconds {
-        option.value_parser(value_parser!(u32).range(1..=MOST_SECONDS))
-    } else {
-        option
+    let option = match extra.most_seconds {
+        Some(most) => option.value_parser(value_parser!(u32).range(1..=most)),
+        None => option,
+    };
+    let option = match extra.short {
+        Some(letter) => option.short(letter),
+        None => option,
     };
     let option = match extra.value {
         None => option,

@@ -8,7 +8,9 @@ use Rattle.zmeta_args.specs.declared.arguments.Arguments.{Arguments}
 use Rattle.zmeta_args.specs.declared.arguments.Arguments.TheVariants.{Show, Pqf, Join, Records, Run, Ask, Loop, Serve}
 use Rattle.zmeta_args.specs.Texts.{texts_of, now_of}
 use Rattle.zmeta_args.specs.Arguments.{IsParsed}
+use Rattle.zoom.specs.Limits.{Limits}
 use Rattle.zmeta_commands.specs.Ask.{AfterAsk}
+use Rattle.zmeta_commands.specs.Choice.{AreLimits, manner_of}
 use Rattle.zmeta_commands.specs.Join.{AfterJoin}
 use Rattle.zmeta_commands.specs.Loop.{AfterLoop}
 use Rattle.zmeta_commands.specs.Pqf.{AfterPqf}
@@ -41,10 +43,11 @@ AfterCall contents octets (Records first others only syntax conflicts) before af
 AfterCall contents octets (Run world saved search view) before after status = (after.input ≡ before.input)
     × AfterRun contents (search_of search) view world.now (now_of saved) (octets world.now)
     (written before) (written after) status
-AfterCall contents octets (Ask world saved at_once only patience within search view) before after status =
+AfterCall contents octets (Ask world saved at_once only options search view) before after status =
     (after.input ≡ before.input)
-    × AfterAsk contents (record { at_once = at_once; only = texts_of only.items }) (search_of search) view
-    world.now (now_of saved) (octets world.now) (written before) (written after) status
+    × ((limits : Limits) × AreLimits options limits
+    × AfterAsk contents (record { manner = manner_of at_once; only = texts_of only.items; limits = limits })
+    (search_of search) view world.now (now_of saved) (octets world.now) (written before) (written after) status)
 AfterCall contents octets (Loop world saved search view) before after status = (after.input ≡ before.input)
     × AfterLoop contents (search_of search) view world.now (now_of saved) (octets world.now)
     (written before) (written after) status

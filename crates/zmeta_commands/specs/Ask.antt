@@ -6,8 +6,8 @@ use Rattle.zmeta_world.specs.declared.network.NetworkRun.{NetworkRun}
 use Rattle.zmeta_world.specs.Worlds.{IsRefused}
 use Rattle.zmeta_world.specs.Search.{SearchTexts}
 use Rattle.zmeta_world.specs.NetworkRuns.{IsNetworkRun, IsFirstTargetLine}
-use Rattle.zoom.specs.Asking.{is_present, IsAsked}
-use Rattle.zmeta_commands.specs.Choice.{Manner, AreAllKnown, IsChosen, IsFirstUnknown}
+use Rattle.zoom.specs.Asking.{IsAsked}
+use Rattle.zmeta_commands.specs.Choice.{ChoiceTexts, AreAllKnown, IsChosen, IsFirstUnknown}
 use Rattle.zmeta_commands.specs.declared.fault.Fault.{Fault}
 use Rattle.zmeta_commands.specs.declared.fault.Fault.TheVariants.{Read, Line, Query, Wanted, Syntax, NoQuestion, Memory}
 use Rattle.zmeta_commands.specs.declared.finished.Finished.{Finished}
@@ -41,16 +41,16 @@ ReadNetworkResult search file (Err f) = IsSearchRefusal search f
 -- ---- hosts that were asked
 
 -- each given name is a question's; each chosen question was put to its host; and the list has the facts
-pub record IsAskedOf (manner : Manner) (view : View) (e : NetworkRun) (r : Finished) : Type 0 where
-  pub known : AreAllKnown manner.only e.names
+pub record IsAskedOf (choice : ChoiceTexts) (view : View) (e : NetworkRun) (r : Finished) : Type 0 where
+  pub known : AreAllKnown choice.only e.names
   pub chosen : List (Option (List ℕ))
-  pub picks : IsChosen manner.only e.names e.addresses chosen
-  pub asked : IsAsked e.questions e.settings manner.at_once (is_present chosen) r.meta
+  pub picks : IsChosen choice.only e.names e.addresses chosen
+  pub asked : IsAsked e.questions e.settings choice.manner choice.limits chosen r.meta
   pub listed : IsListed r.meta e.names chosen view r
 
 -- the hosts of the file were asked
-abbrev pub AreAsked : Manner → SearchTexts → View → List ℕ → Finished → Type 0
-AreAsked manner search view file r = (e : NetworkRun) × IsNetworkFile search file e × IsAskedOf manner view e r
+abbrev pub AreAsked : ChoiceTexts → SearchTexts → View → List ℕ → Finished → Type 0
+AreAsked choice search view file r = (e : NetworkRun) × IsNetworkFile search file e × IsAskedOf choice view e r
 
 -- the name is the first that no question of the file has
 abbrev pub HasNoQuestion : List (List ℕ) → SearchTexts → List ℕ → List ℕ → Type 0
@@ -58,20 +58,20 @@ HasNoQuestion only search file name =
     (e : NetworkRun) × IsNetworkFile search file e × IsFirstUnknown only e.names name
 
 -- the finished connections of the hosts of a file, or why they were not asked
-abbrev pub AskFileResult : Manner → SearchTexts → View → List ℕ → Result Finished Fault → Type 0
-AskFileResult manner search view file (Ok r) = AreAsked manner search view file r
-AskFileResult manner search view file (Err (Line number)) = IsLineUnasked search file number
-AskFileResult manner search view file (Err (NoQuestion unknown)) = HasNoQuestion manner.only search file unknown.now
-AskFileResult manner search view file (Err (Read path)) = Unit {0}
-AskFileResult manner search view file (Err Memory) = Unit {0}
-AskFileResult manner search view file (Err f) = IsSearchRefusal search f
+abbrev pub AskFileResult : ChoiceTexts → SearchTexts → View → List ℕ → Result Finished Fault → Type 0
+AskFileResult choice search view file (Ok r) = AreAsked choice search view file r
+AskFileResult choice search view file (Err (Line number)) = IsLineUnasked search file number
+AskFileResult choice search view file (Err (NoQuestion unknown)) = HasNoQuestion choice.only search file unknown.now
+AskFileResult choice search view file (Err (Read path)) = Unit {0}
+AskFileResult choice search view file (Err Memory) = Unit {0}
+AskFileResult choice search view file (Err f) = IsSearchRefusal search f
 
 -- the finished connections of a network plan, or why its hosts were not asked
-abbrev pub AskNetworkResult : Manner → View → NetworkRun → Result Finished Fault → Type 0
-AskNetworkResult manner view e (Ok r) = IsAskedOf manner view e r
-AskNetworkResult manner view e (Err (NoQuestion unknown)) = IsFirstUnknown manner.only e.names unknown.now
-AskNetworkResult manner view e (Err Memory) = Unit {0}
-AskNetworkResult manner view e (Err _) = ⊥
+abbrev pub AskNetworkResult : ChoiceTexts → View → NetworkRun → Result Finished Fault → Type 0
+AskNetworkResult choice view e (Ok r) = IsAskedOf choice view e r
+AskNetworkResult choice view e (Err (NoQuestion unknown)) = IsFirstUnknown choice.only e.names unknown.now
+AskNetworkResult choice view e (Err Memory) = Unit {0}
+AskNetworkResult choice view e (Err _) = ⊥
 
 -- a fault that can end asking the hosts of the file at a path
 abbrev pub IsOfAsking : List ℕ → Fault → Type 0
@@ -87,5 +87,5 @@ IsOfAsking path _ = ⊥
 -- ---- the command
 
 -- the streams, the saved file and the status after `ask`, by the contents of files that it makes
-abbrev pub AfterAsk : {M : Type 0} → (M → Option (List ℕ)) → Manner → SearchTexts → View → Command
-AfterAsk contents manner search view = AfterCommand contents (AskFileResult manner search view) IsOfAsking
+abbrev pub AfterAsk : {M : Type 0} → (M → Option (List ℕ)) → ChoiceTexts → SearchTexts → View → Command
+AfterAsk contents choice search view = AfterCommand contents (AskFileResult choice search view) IsOfAsking

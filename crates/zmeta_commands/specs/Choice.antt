@@ -1,20 +1,58 @@
 -- The choice of questions, and how their hosts are asked.
-use Rattle.std.specs.Prelude.{◌≡◌, ℕ, ◌<◌, Bool, true, false, List, [], ◌∷◌, length, slice_get, Option, Some, None, Result, Ok, Err}
+use Rattle.std.specs.Prelude.{◌≡◌, ℕ, ◌<◌, ◌*◌, Bool, true, false, List, [], ◌∷◌, length, slice_get, Option, Some, None, Result, Ok, Err}
+use Rattle.std.specs.declared.time.Duration.{Duration}
+use Rattle.std.specs.Duration.{as_nanos}
 use Rattle.std.specs.List.{list_any}
+use Rattle.std.specs.Option.{unwrap_or}
 use Rattle.std.specs.Str.{bytes_eq}
 use Rattle.zmeta_args.specs.Texts.{texts_of}
+use Rattle.zmeta_args.specs.declared.arguments.LimitOptions.{LimitOptions}
+use Rattle.zoom.specs.Manner.{Manner}
+use Rattle.zoom.specs.Manner.TheVariants as manners
+use Rattle.zoom.specs.Limits.{Limits}
+use Rattle.zoom.specs.Family.{Family}
+use Rattle.zoom.specs.Family.TheVariants as families
 use Rattle.zmeta_commands.specs.declared.choice.Choice.{Choice}
 use Rattle.zmeta_commands.specs.declared.fault.Fault.{Fault}
 use Rattle.zmeta_commands.specs.declared.fault.Fault.TheVariants.{NoQuestion, Memory}
 
--- whether all hosts are asked at once, and the names of the questions to ask, or none for all
-pub record Manner : Type 0 where
-  pub at_once : Bool
+-- how the hosts are talked with, the names of the questions to ask, or none for all, and how long hosts are waited for
+pub record ChoiceTexts : Type 0 where
+  pub manner : Manner
   pub only : List (List ℕ)
+  pub limits : Limits
 
--- the manner of a choice
-abbrev pub manner : Choice → Manner
-manner choice = record { at_once = choice.at_once; only = texts_of choice.only.now }
+-- the same, of a choice
+abbrev pub choice_texts : Choice → ChoiceTexts
+choice_texts choice = record { manner = choice.manner; only = texts_of choice.only.now; limits = choice.limits }
+
+-- at once or in order
+abbrev pub manner_of : Bool → Manner
+manner_of true = manners.AtOnce
+manner_of false = manners.InOrder
+
+-- which addresses are used
+abbrev pub family_of : Bool → Bool → Family
+family_of true only_v6 = families.V4
+family_of false true = families.V6
+family_of false false = families.Any
+
+-- so many seconds, in nanoseconds
+abbrev pub IsSeconds : ℕ → Duration → Type 0
+IsSeconds count span = as_nanos span ≡ count * 1000000000
+
+-- the same, if there is a limit
+abbrev pub IsLimit : ℕ → Option Duration → Type 0
+IsLimit count None = ⊥
+IsLimit count (Some span) = IsSeconds count span
+
+-- The limits that the options say: without a patience, 30 seconds; without a time for connecting, the patience; without
+-- a time for everything, an hour.
+pub record AreLimits (o : LimitOptions) (l : Limits) : Type 0 where
+  pub connect : IsSeconds (unwrap_or o.connect (unwrap_or o.patience 30)) l.connect
+  pub patience : IsSeconds (unwrap_or o.patience 30) l.patience
+  pub total : IsLimit (unwrap_or o.within 3600) l.total
+  pub family : l.family ≡ family_of o.only_v4 o.only_v6
 
 -- the name is among the names
 abbrev pub is_among : List (List ℕ) → List ℕ → Bool

@@ -3,10 +3,10 @@
 ghost use Rattle.std.specs.Prelude.{◌≡◌, ◌<◌, ◌^◌, length, IfOk, IfErr, IfSome};
 ghost use Rattle.std.specs.Option.{option_map};
 ghost use Rattle.zoom.specs.Askable.{AreAskable, AreFit};
-ghost use Rattle.zoom.specs.Asking.{is_present, IsAsked};
+ghost use Rattle.zoom.specs.Asking.{IsAsked};
 ghost use Rattle.zmeta_commands.specs.Devices.{outputs};
 ghost use Rattle.zmeta_commands.specs.Finished.{HasNames, IsOfSearchedWorld};
-ghost use Rattle.zmeta_commands.specs.Choice.{manner};
+ghost use Rattle.zmeta_commands.specs.Choice.{choice_texts};
 ghost use Rattle.zmeta_commands.specs.Searches.{search_of};
 ghost use Rattle.zmeta_commands.specs.Ask.{ReadNetworkResult, CanBeAsked, AskNetworkResult, AskFileResult, IsOfAsking, AfterAsk};
 
@@ -24,7 +24,7 @@ use std::net::Net;
 use std::time::Clock;
 use zmeta_args::{SearchOptions, View};
 use zmeta_world::network::NetworkRun;
-use zoom::{Limits, Meta, MetaSettings, Question, Watch, ask, ask_at_once};
+use zoom::{Limits, Manner, Meta, MetaSettings, Question, ask};
 
 /// Puts each chosen question of a world file to its host over TCP, and prints what is known: as the list, the view
 /// for readers or lines of JSON, as `view` says. The hosts are asked at once or one after the other, as `choice` says.
@@ -48,7 +48,7 @@ pub fn ask_named<'a, 'o: 'a, S: Folder + Net + Clock, W: Write, E: Write, P: Wri
     output: &mut Output<'o, W>,
     errors: &mut Output<'_, E>,
 ) -> Status
-    ensures { AfterAsk S.Made.contents (manner choice.entry) (search_of search.now) view paths.entry.world.now
+    ensures { AfterAsk S.Made.contents (choice_texts choice.entry) (search_of search.now) view paths.entry.world.now
         (option_map (λ path. path.now) paths.entry.saved)
         (S.octets system.now paths.entry.world.now) (outputs W.contents E.contents output.old errors.old)
         (outputs W.contents E.contents output.new errors.new) result }
@@ -68,7 +68,7 @@ fn ask_file<'a, S: Folder + Net + Clock, P: Write + Drop>(
     screen: Option<P>,
 ) -> Result<Finished, Fault<'a>>
     ensures asked { IfSome (S.octets system.now path.entry.now)
-        (λ octets. AskFileResult (manner choice.entry) (search_of search.now) view octets result) }
+        (λ octets. AskFileResult (choice_texts choice.entry) (search_of search.now) view octets result) }
     ensures sound { IfOk result HasNames }
     ensures path { IfErr result (IsOfAsking path.entry.now) }
 {
@@ -103,7 +103,7 @@ fn ask_network<'a, N: Net + Clock, P: Write + Drop>(
     screen: Option<P>,
 ) -> Result<Finished, Fault<'a>>
     requires { CanBeAsked network }
-    ensures asked { AskNetworkResult (manner choice.entry) view network result }
+    ensures asked { AskNetworkResult (choice_texts choice.entry) view network result }
     ensures sound { IfOk result HasNames }
 {
     let NetworkRun {
@@ -120,7 +120,7 @@ fn ask_network<'a, N: Net + Clock, P: Write + Drop>(
         questions.into_vec(),
         settings,
         chosen.as_slice(),
-        choice.at_once,
+        choice.manner,
         choice.limits,
         progress,
     )?;
@@ -134,7 +134,7 @@ fn ask_watched<N: Net + Clock, C: Clock, P: Write + Drop>(
     questions: Vec<Question>,
     settings: MetaSettings,
     addresses: &[Option<Bytes>],
-    at_once: bool,
+    manner: Manner,
     limits: Limits,
     mut progress: Progress<'_, C, P>,
 ) -> Result<Meta, AllocError>
@@ -142,42 +142,18 @@ fn ask_watched<N: Net + Clock, C: Clock, P: Write + Drop>(
     requires askable { AreAskable questions.items }
     requires fit { AreFit settings }
     requires equal { length addresses.now ≡ length questions.items }
-    ensures { IfOk result (λ meta. IsAsked questions.items settings at_once (is_present addresses.now) meta) }
+    ensures { IfOk result (λ meta. IsAsked questions.items settings manner limits addresses.now meta) }
 {
-    let meta = ask_hosts(
+    let meta = ask(
         alloc,
         net,
         questions,
         settings,
         addresses,
-        at_once,
+        manner,
         limits,
         &mut progress,
     )?;
     progress.wipe();
     Ok(meta)
-}
-
-/// Asks hosts at once, or one after the other.
-fn ask_hosts<N: Net + Clock, V: Watch>(
-    alloc: Global,
-    net: &N,
-    questions: Vec<Question>,
-    settings: MetaSettings,
-    addresses: &[Option<Bytes>],
-    at_once: bool,
-    limits: Limits,
-    watch: &mut V,
-) -> Result<Meta, AllocError>
-    requires some { length questions.items < 2 ^ 32 }
-    requires askable { AreAskable questions.items }
-    requires fit { AreFit settings }
-    requires equal { length addresses.now ≡ length questions.items }
-    ensures { IfOk result (λ meta. IsAsked questions.items settings at_once (is_present addresses.now) meta) }
-{
-    if at_once {
-        ask_at_once(alloc, net, questions, settings, addresses, limits, watch)
-    } else {
-        ask(alloc, net, questions, settings, addresses, limits, watch)
-    }
 }

@@ -1,26 +1,28 @@
 //! The choice of questions, and how their hosts are asked.
 
-ghost use Rattle.std.specs.Prelude.{◌≡◌, ◌*◌, length, Ok, Err, IfOk, IfSome, MatchResult};
+ghost use Rattle.std.specs.Prelude.{◌≡◌, ◌*◌, length, Ok, Err, IfOk, MatchResult};
 ghost use Rattle.std.specs.Duration.{as_nanos};
 ghost use Rattle.std.specs.List.{list_any};
-ghost use Rattle.std.specs.Option.{option_map, unwrap_or};
+ghost use Rattle.std.specs.Option.{option_map};
 ghost use Rattle.std.specs.Str.{bytes_eq};
 ghost use Rattle.zmeta_args.specs.Texts.{texts_of};
-ghost use Rattle.zmeta_commands.specs.Choice.{is_among, is_picked, address_if, IsChosen, AddressesResult, FirstUnknownResult, CheckNamesResult};
+ghost use Rattle.zmeta_commands.specs.Choice.{AreLimits, family_of, manner_of, is_among, is_picked, address_if, IsChosen, AddressesResult, FirstUnknownResult, CheckNamesResult};
 
 use crate::fault::Fault;
 use bytes::Bytes;
 use std::alloc::{AllocError, Global};
-use zoom::Limits;
+use std::time::Duration;
+use zmeta_args::LimitOptions;
+use zoom::{Family, Limits, Manner};
 
 /// Which questions are asked, and how.
 #[derive(Clone, Copy)]
 pub struct Choice<'a, 'w> {
-    /// Whether all hosts are asked at once. If not, they are asked one after the other.
-    pub at_once: bool,
+    /// Whether the hosts are talked with at once or in order.
+    pub manner: Manner,
     /// The names of the questions to ask. If there are none, all questions are asked.
     pub only: &'w [&'a str],
-    /// The time limits.
+    /// How long hosts are waited for, and over which addresses.
     pub limits: Limits,
 }
 
@@ -30,13 +32,49 @@ const PATIENCE: u32 = 30;
 /// The seconds for everything without `--within`.
 const HOUR: u32 = 3600;
 
-/// Returns the time limits of these numbers of seconds: without the first, a patience of 30 seconds; without the
-/// second, an hour for everything.
-pub(crate) fn limits_of(patience: Option<u32>, within: Option<u32>) -> Limits
-    ensures patience { as_nanos result.patience ≡ unwrap_or patience 30 * 1000000000 }
-    ensures total { IfSome result.total (λ limit. as_nanos limit ≡ unwrap_or within 3600 * 1000000000) }
+/// Returns the limits that the options say. Without `--patience` it is 30 seconds; without `--connect`, that is the
+/// patience; without `--within`, everything may take an hour.
+pub(crate) fn limits_of(options: &LimitOptions) -> Limits
+    ensures { AreLimits options.now result }
 {
-    Limits::of_seconds(patience.unwrap_or(PATIENCE), within.unwrap_or(HOUR))
+    let patience = options.patience.unwrap_or(PATIENCE);
+    Limits {
+        connect: seconds(options.connect.unwrap_or(patience)),
+        patience: seconds(patience),
+        total: Some(seconds(options.within.unwrap_or(HOUR))),
+        family: family_of(options.only_v4, options.only_v6),
+    }
+}
+
+/// Returns so many seconds.
+fn seconds(count: u32) -> Duration
+    ensures { as_nanos result ≡ count * 1000000000 }
+{
+    Duration::from_secs(count as u64)
+}
+
+/// Returns which addresses are used.
+fn family_of(only_v4: bool, only_v6: bool) -> Family
+    ensures { result ≡ family_of only_v4 only_v6 }
+{
+    if only_v4 {
+        Family::V4
+    } else if only_v6 {
+        Family::V6
+    } else {
+        Family::Any
+    }
+}
+
+/// Returns whether the hosts are talked with at once or in order.
+pub(crate) fn manner_of(at_once: bool) -> Manner
+    ensures { result ≡ manner_of at_once }
+{
+    if at_once {
+        Manner::AtOnce
+    } else {
+        Manner::InOrder
+    }
 }
 
 /// Returns whether the name is among the names.

@@ -4,7 +4,7 @@ ghost use Rattle.zmeta_commands.specs.Devices.{output_device, outputs, streams};
 ghost use Rattle.zmeta_commands.specs.Arguments.{AfterCall, AfterArguments, AfterUsage, IsWrong};
 
 use crate::ask::ask_named;
-use crate::choice::{Choice, limits_of};
+use crate::choice::{Choice, limits_of, manner_of};
 use crate::fault::{Fault, Status};
 use crate::files::Folder;
 use crate::finished::Paths;
@@ -186,15 +186,14 @@ fn call<'a, S: Folder + Net + Clock, R: Read, W: Write, E: Write, P: Write + Dro
             saved,
             at_once,
             only,
-            patience,
-            within,
+            limits,
             search,
             view,
         } => {
             let choice = Choice {
-                at_once,
+                manner: manner_of(at_once),
                 only: only.as_slice(),
-                limits: limits_of(patience, within),
+                limits: limits_of(&limits),
             };
             let paths = Paths { world, saved };
             ask_named(

@@ -96,21 +96,14 @@ impl<'a, C: Clock, P: Write + Drop> Progress<'a, C, P> {
         }
     }
 
-    /// Returns whether a new line is due.
-    fn is_due(&mut self) -> bool {
-        if self.screen.is_none() {
-            return false;
+    /// Returns how long it is until a new line may be shown, by a time that the clock gave.
+    fn pause(&self, now: Instant) -> Duration {
+        match self.shown {
+            Some(shown) => {
+                Duration::from_millis(PAUSE).saturating_sub(now.duration_since(shown))
+            }
+            None => Duration::ZERO,
         }
-        let Ok(now) = Instant::now(self.clock) else {
-            return false;
-        };
-        if let Some(shown) = self.shown
-            && now.duration_since(shown) < Duration::from_millis(PAUSE)
-        {
-            return false;
-        }
-        self.shown = Some(now);
-        true
     }
 
     /// Returns the text of the line.
@@ -203,12 +196,22 @@ fn put_count(
 }
 
 impl<'a, C: Clock, P: Write + Drop> Watch for Progress<'a, C, P> {
-    fn look(&mut self, meta: &Meta) {
-        if !self.is_due() {
-            return;
+    // Where a line is not due yet, it is looked again once it is, so that the last line tells the last news.
+    fn look(&mut self, meta: &Meta) -> Option<Duration> {
+        if self.screen.is_none() {
+            return None;
         }
+        let Ok(now) = Instant::now(self.clock) else {
+            return None;
+        };
+        let pause = self.pause(now);
+        if !pause.is_zero() {
+            return Some(pause);
+        }
+        self.shown = Some(now);
         if let Ok(text) = self.line(meta) {
             self.put(text.as_slice());
         }
+        None
     }
 }

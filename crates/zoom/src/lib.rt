@@ -6,16 +6,15 @@
 
 pub mod laws;
 
+pub use zoom_asking::Manner;
 pub use zoom_io::{
-    AnswerError, Counting, Failed, Halves, NonBlocking, PushError, Sink, Source, TalkError,
-    TalkPhase, Unwatched, Watch, answer, push, talk, talk_at_once,
+    AnswerError, Counting, Failed, PushError, Sink, Source, TalkError, answer, push, talk,
 };
 pub use zoom_pool::{Call, Host, Meta, Pool, Reason, ResultSet, State, Step, TakeError};
 pub use zoom_questions::{MetaSettings, Move, Question};
 pub use zoom_sim::channels::{Channel, InMemory};
 pub use zoom_sim::{run_over, run_world};
 pub use zoom_tcp::{
-    Arrival, Clients, ConnectProgress, Limits, Network, Readiness, Received, ServeError, Sockets,
-    TcpClients, TcpLink, TcpSockets, Transfer, ask, ask_at_once, ask_over, run_loopback, serve,
-    serve_over,
+    Arrival, Clients, Family, Limits, ServeError, TcpClients, TcpLink, Unwatched, Watch, ask,
+    run_loopback, serve, serve_over,
 };

@@ -1,16 +1,9 @@
 -- What several calls of a device do, one after the other.
-use Rattle.std.proofs.Common.{◌≡◌, ◌∙◌, sym, ap, ℕ, zero, suc, ◌-◌, ◌<◌, refl, arith, List, ◌++◌, length, take, drop, Option, None, Some, Ok, append_assoc, take-append-drop}
+use Rattle.std.proofs.Common.{◌≡◌, ◌∙◌, sym, ap, ℕ, ◌-◌, List, ◌++◌, length, take, drop, Option, None, Some, Ok, append_assoc, take-append-drop}
 use Rattle.std.specs.Io.KnownBytes.{Keeps, Appends, Consumes}
 use Rattle.std.proofs.KnownBytes.{Appends-trans}
 use Rattle.std.proofs.lemmas.List.{take_rest}
-use Rattle.zoom_io.specs.Devices.{DeviceState, AfterWrite, next_count, polls_after}
-
--- ---- polls
-
--- A poll that gives octets counts.
-pub polls_counted : (E : Type 0) (n count : ℕ) → 0 < count → polls_after {E = E} n (Ok (Some count)) ≡ next_count n
-polls_counted E n zero some = absurd (omega (arith, some))
-polls_counted E n (suc count) some = refl
+use Rattle.zoom_io.specs.Devices.{DeviceState, AfterWrite}
 
 -- ---- octets written in several calls
 

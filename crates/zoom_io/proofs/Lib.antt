@@ -6,9 +6,5 @@ pub mod LastClose
 pub mod Answering
 pub mod AnswerEnds
 pub mod Apart
-pub mod Joining
-pub mod Together
-pub mod Halting
 pub mod Others
-pub mod Looks
 pub mod Blameless

@@ -1,6 +1,5 @@
 -- What reading and writing do to a device.
-use Rattle.std.specs.Prelude.{◌≡◌, ◌⊎◌, ℕ, zero, ◌+◌, ◌-◌, ◌^◌, ◌<◌, min, List, ◌++◌, Option, None, Some, Result, Ok, Err}
-use Rattle.std.specs.Io.{ReadsAtMost}
+use Rattle.std.specs.Prelude.{◌≡◌, ◌⊎◌, ℕ, ◌+◌, ◌-◌, ◌^◌, min, List, ◌++◌, Option, Result, Ok, Err}
 use Rattle.std.specs.Io.KnownBytes.{Keeps, Appends, ReadConsumes, WriteAppends}
 
 -- The octets that a source has left or a sink holds, if they are known, and the number of failed calls.
@@ -8,7 +7,7 @@ pub record DeviceState : Type 0 where
   pub octets : Option (List ℕ)
   pub failures : ℕ
 
--- The largest count of failures or polls.
+-- The largest count of failures.
 abbrev pub most_failures : ℕ
 most_failures = 2 ^ 64 - 1
 
@@ -35,10 +34,6 @@ pub record AfterWrite {E : Type 0} (old new : DeviceState) (result : Result ℕ 
 abbrev pub HasRisen : ℕ → ℕ → ℕ → Type 0
 HasRisen n old new = (new ≡ old + n) ⊎ (new ≡ most_failures)
 
--- The count rose by fewer than n.
-abbrev pub HasRisenBelow : ℕ → ℕ → ℕ → Type 0
-HasRisenBelow n old new = (m : ℕ) × (m < n) × HasRisen m old new
-
 -- The count rose by one failure, or is the largest count.
 abbrev pub HasFailed : ℕ → ℕ → Type 0
 HasFailed old new = HasRisen 1 old new
@@ -64,21 +59,3 @@ AfterWriteAll old new octets (Err _) =
 pub record IsUntouched (old new : DeviceState) : Type 0 where
   pub octets : Keeps old.octets new.octets
   pub failures : new.failures ≡ old.failures
-
--- ---- a device that does not wait
-
--- A poll gives no more octets than there is room for.
-abbrev pub IsBoundedPoll : {E : Type 0} → Result (Option ℕ) E → List ℕ → Type 0
-IsBoundedPoll {E} (Ok (Some n)) piece = ReadsAtMost {E = E} (Ok n) piece
-IsBoundedPoll _ piece = Unit {0}
-
--- A poll reads, or no octets have come yet.
-abbrev pub AfterPoll : {E : Type 0} → DeviceState → DeviceState → Result (Option ℕ) E → List ℕ → Type 0
-AfterPoll {E} old new (Ok (Some n)) piece = AfterRead {E = E} old new (Ok n) piece
-AfterPoll old new (Ok None) piece = IsUntouched old new
-AfterPoll {E} old new (Err e) piece = AfterRead {E = E} old new (Err e) piece
-
--- The count of polls after a poll. One that returned `Some(0)`, as it does at the end, does not count.
-abbrev pub polls_after : {E : Type 0} → ℕ → Result (Option ℕ) E → ℕ
-polls_after n (Ok (Some zero)) = n
-polls_after n _ = next_count n

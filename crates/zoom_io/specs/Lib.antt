@@ -6,8 +6,3 @@ pub mod Talking
 pub mod Blameless
 pub mod Pushing
 pub mod Answering
-pub mod TalksAmong
-pub mod Arrivals
-pub mod PollRounds
-pub mod Looks
-pub mod AtOnce

@@ -63,12 +63,7 @@ impl From<PushError> for TalkError {
 
 /// Makes the calls that are due and writes what waits, first and after each message. Returns whether the connection
 /// is Closed or Failed; if not, no complete message is waiting.
-pub(crate) fn settle<W: Sink>(
-    alloc: Global,
-    meta: &mut Meta,
-    c: u32,
-    sink: &mut W,
-) -> Result<bool, PushError>
+fn settle<W: Sink>(alloc: Global, meta: &mut Meta, c: u32, sink: &mut W) -> Result<bool, PushError>
     requires { c < length meta.old.pool.connections }
     ensures settles { AfterSettle c result meta.old meta.new (W.state sink.old) (W.state sink.new) }
     ensures sound { IfPushMemory result (HasNoFailure (W.state sink.old) (W.state sink.new)) }
@@ -136,7 +131,7 @@ fn take_last(meta: &mut Meta, c: u32) -> Result<(), AllocError>
 
 /// Ends the input of a connection and takes what is left of it. Refuses with `Ended`, and stops the connection, if
 /// that did not end it otherwise.
-pub(crate) fn finish(meta: &mut Meta, c: u32) -> Result<(), TalkError>
+fn finish(meta: &mut Meta, c: u32) -> Result<(), TalkError>
     requires { c < length meta.old.pool.connections }
     ensures finishes { AfterFinish c result meta.old meta.new }
     ensures others { SameOthers c meta.old.pool meta.new.pool }

@@ -1,10 +1,2 @@
-pub mod Alike
-pub mod Openings
-pub mod InOrder
-pub mod AtOnce
-pub mod HostTalks
 pub mod Serving
-pub mod Entries
-pub mod Attempts
-pub mod HostLinks
-pub mod Waits
+pub mod Reporting

@@ -2,9 +2,11 @@
 ghost use Rattle.zoom_tcp.specs.Clients.{IsFreshArrival};
 
 use crate::link::{TcpLink, Timed};
+use crate::wants::is_passing;
 use std::io::{Read, Write};
 use std::net::{OpenListener, OpenStream};
-use std::time::Clock;
+use std::thread::sleep;
+use std::time::{Clock, Duration};
 use zoom_io::Counting;
 
 /// What waiting for the next client brought.
@@ -37,7 +39,7 @@ pub trait Clients<R, W> {
         ensures { IsDeparture self.old source sink self.new };
 }
 
-/// The clients that connect to a listening socket.
+/// The clients that connect to a listening socket. One that cannot be taken for a reason that passes is tried again.
 #[derive(Drop)]
 pub struct TcpClients<'a, C, L> {
     clock: &'a C,
@@ -48,6 +50,25 @@ impl<'a, C: Clock, L: OpenListener> TcpClients<'a, C, L> {
     /// The clients of this socket. It does not wait for any.
     pub fn new(clock: &'a C, listener: &'a L) -> TcpClients<'a, C, L> {
         TcpClients { clock, listener }
+    }
+}
+
+/// How long it is waited until a client is tried to be taken again, in milliseconds.
+const PAUSE: u64 = 100;
+
+/// A client that was taken, or that was gone before it could be answered.
+fn greet<'a, C: Clock, S: OpenStream + Drop>(
+    clock: &'a C,
+    stream: S,
+) -> Arrival<Device<'a, C, S>, Device<'a, C, S>>
+    ensures { IsFreshArrival (λ d. d.failures) (λ d. d.failures) result }
+{
+    match TcpLink::new(clock, stream) {
+        Ok(link) => {
+            let TcpLink { source, sink } = link;
+            Arrival::Client(source, sink)
+        }
+        Err(_) => Arrival::Gone,
     }
 }
 
@@ -63,16 +84,16 @@ impl<'a, C: Clock, S: Read + Write + OpenStream + Drop, L: OpenListener<Stream =
     ghost IsDeparture = { λ k source sink l. Unit {0} };
 
     fn next_client(&mut self) -> Arrival<Device<'a, C, S>, Device<'a, C, S>> {
-        let Ok((stream, _)) = self.listener.accept() else {
-            return Arrival::NoClient;
-        };
-        match TcpLink::new(self.clock, stream) {
-            Ok(link) => {
-                let TcpLink { source, sink } = link;
-                Arrival::Client(source, sink)
+        for _ in 0..u64::MAX {
+            match self.listener.accept() {
+                Ok((stream, _)) => return greet(self.clock, stream),
+                Err(error) if is_passing(&error) => {
+                    sleep(self.clock, Duration::from_millis(PAUSE));
+                }
+                Err(_) => return Arrival::NoClient,
             }
-            Err(_) => Arrival::Gone,
         }
+        Arrival::NoClient
     }
 
     fn end_client(&mut self, source: Device<'a, C, S>, sink: Device<'a, C, S>) {

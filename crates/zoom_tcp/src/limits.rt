@@ -1,83 +1,89 @@
-//! The time limits of asking hosts.
-ghost use Rattle.std.specs.Prelude.{◌≡◌, ◌<◌, ◌≤◌, ◌-◌, ◌*◌, true, false, is_some, IfSome};
+//! The limits of asking hosts.
+ghost use Rattle.std.specs.Prelude.{◌≡◌, ◌*◌, ◌^◌, ◌-◌, ◌<◌, min, true, false};
 ghost use Rattle.std.specs.Duration.{as_nanos};
-ghost use Rattle.zoom_tcp.specs.Silence.{IsWithin, IsOver, IsNoLater, IsTotalOver};
+ghost use Rattle.zoom_tcp.specs.Asking.{nanos, total_of, asked_host};
 
+use std::net::SocketAddr;
 use std::time::Duration;
+use zoom_asking::AskedHost;
 
-/// The time limits of asking hosts.
+/// Which addresses of hosts are used.
+#[derive(Clone, Copy, Debug, PartialEq, Eq)]
+pub enum Family {
+    /// All.
+    Any,
+    /// Those of IPv4 alone.
+    V4,
+    /// Those of IPv6 alone.
+    V6,
+}
+
+impl Family {
+    /// Whether an address is used.
+    pub(crate) fn has(&self, address: &SocketAddr) -> bool {
+        match self {
+            Family::Any => true,
+            Family::V4 => address.is_ipv4(),
+            Family::V6 => address.is_ipv6(),
+        }
+    }
+}
+
+/// The limits of asking hosts.
 #[derive(Clone, Copy, Debug, PartialEq, Eq)]
 pub struct Limits {
-    /// The longest time for connecting to all hosts together, and the longest that a host may be silent.
+    /// The longest time for connecting to a host, from when its addresses are known.
+    pub connect: Duration,
+    /// The longest time that a host may be silent.
     pub patience: Duration,
     /// The longest time for everything, from the first look-up of a name on. `None` sets no limit.
     pub total: Option<Duration>,
+    /// Which addresses of hosts are used.
+    pub family: Family,
 }
 
 impl Default for Limits {
-    /// A patience of 30 seconds, and an hour for everything.
+    /// 30 seconds for connecting and of silence, an hour for everything, and all addresses.
     fn default() -> Limits {
-        Limits::of_seconds(30, 3600)
+        Limits {
+            connect: Duration::from_secs(30),
+            patience: Duration::from_secs(30),
+            total: Some(Duration::from_secs(3600)),
+            family: Family::Any,
+        }
     }
 }
 
 impl Limits {
-    /// A patience, and a time for everything, of so many seconds.
-    pub fn of_seconds(patience: u32, total: u32) -> Limits
-        ensures patience { as_nanos result.patience ≡ patience * 1000000000 }
-        ensures total { IfSome result.total (λ limit. as_nanos limit ≡ total * 1000000000) }
-        ensures limited { is_some result.total ≡ true }
+    /// How long to wait for each host.
+    pub(crate) fn of_host(&self) -> AskedHost
+        ensures { result ≡ asked_host self.now }
     {
-        Limits {
-            patience: Duration::from_secs(patience as u64),
-            total: Some(Duration::from_secs(total as u64)),
+        AskedHost {
+            connect: nanos(self.connect),
+            patience: nanos(self.patience),
         }
     }
 
-    /// The end of the time for what began at `since`: the patience, and no more than is left for everything, which
-    /// began at `begun`.
-    pub(crate) fn end_of(&self, begun: Duration, since: Duration) -> Duration
-        ensures patient { IsNoLater since result self.now.patience }
-        ensures total { IfSome self.now.total (IsNoLater begun result) }
-    {
-        let patient = since.saturating_add(self.patience);
-        match self.total {
-            Some(total) => sooner_of(patient, begun.saturating_add(total)),
-            None => patient,
-        }
-    }
-
-    /// Whether the time for everything is over, if it began at `begun`. It never is if there is no limit.
-    pub(crate) fn is_total_over(&self, begun: Duration, now: Duration) -> bool
-        ensures over { result ≡ true → IsTotalOver self.now begun now }
-        ensures within { result ≡ false → IfSome self.now.total (IsWithin begun now) }
+    /// How long everything may take, in nanoseconds.
+    pub(crate) fn total_nanos(&self) -> Option<u64>
+        ensures { result ≡ total_of self.now }
     {
         match self.total {
-            Some(total) => is_over(total, begun, now),
-            None => false,
+            Some(total) => Some(nanos(total)),
+            None => None,
         }
     }
 }
 
-/// Whether a span of time that began at `begun` is over at `now`.
-pub(crate) fn is_over(span: Duration, begun: Duration, now: Duration) -> bool
-    ensures over { result ≡ true → IsOver begun now span }
-    ensures within { result ≡ false → IsWithin begun now span }
+/// A span of time in nanoseconds. One of more than 584 years counts as `u64::MAX`.
+pub(crate) fn nanos(span: Duration) -> u64
+    ensures { result ≡ nanos span }
 {
-    span.saturating_sub(now.saturating_sub(begun)).is_zero()
-}
-
-/// Whether a time that began at `since` has ended by `until`. It lasts at least until the clock moves.
-pub(crate) fn has_ended(since: Duration, until: Duration, now: Duration) -> bool
-    ensures { result ≡ true → as_nanos since < as_nanos now }
-{
-    until <= now && !now.saturating_sub(since).is_zero()
-}
-
-/// The sooner of two times.
-pub(crate) fn sooner_of(one: Duration, other: Duration) -> Duration
-    ensures one { as_nanos result ≤ as_nanos one }
-    ensures other { as_nanos result ≤ as_nanos other }
-{
-    one.saturating_sub(one.saturating_sub(other))
+    let count = span.as_nanos();
+    if count < 18_446_744_073_709_551_615 {
+        count as u64
+    } else {
+        u64::MAX
+    }
 }

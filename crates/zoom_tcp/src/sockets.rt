@@ -1,158 +1,298 @@
-//! The sockets that links stand on, and a way to wait until one of them is ready.
-ghost use Rattle.std.specs.Prelude.{◌≡◌, ℕ, List, length, Option, None, IfOk, IfSome, IfNone};
-ghost use Rattle.std.specs.Option.{ForSome};
-ghost use Rattle.zoom_tcp.specs.HostLinks.{IsBoundedTransfer, IsBrokenIf, AfterProgress, AfterReadFrom, AfterReceive, IsIdleNoted};
-ghost use Rattle.zoom_tcp.specs.SocketFacts.{SocketFacts, IsTold, IsAllowed};
-
+//! The sockets of all hosts, watched by one poll of the system.
+use crate::hosts::{Host, Moved, Progress, Socket};
+use crate::wants::is_for_want;
+use mio::event::Event;
+use mio::net::TcpStream;
+use mio::{Events, Interest, Poll, Token};
 use std::alloc::{AllocError, Global};
+use std::collections::VecDeque;
+use std::io;
+use std::net::{Net, SocketAddr};
 use std::time::Duration;
+use zoom_asking::Report;
 
-/// What a socket was reported to be ready for.
-#[derive(Clone, Copy, Debug, Default, PartialEq, Eq)]
-pub struct Readiness {
-    /// Octets may have come, or their end.
-    pub readable: bool,
-    /// Octets may be taken, or the attempt to connect has ended.
-    pub writable: bool,
-    /// No more octets come than have come.
-    pub closed: bool,
-}
+/// The most sockets that one wait reports. The next wait reports the others.
+const MOST_EVENTS: usize = 256;
 
-/// The result of moving octets without waiting.
+/// The most octets of one read.
+const PIECE: usize = 65_536;
+
+/// More than any number of a connection. The token of a socket is the number of its attempt times this, and the number
+/// of its connection.
+const TOKENS: usize = 4_294_967_296;
+
+/// What happened on a connection.
 #[derive(Clone, Copy, Debug, PartialEq, Eq)]
-pub enum Transfer {
-    /// So many octets were moved. A read moves none only if there is no room for them or no octets are left.
+pub(crate) enum Happening {
+    Report(Report),
+    /// So many octets came. They stand at the front of the piece.
     Octets(usize),
-    /// No octets have come yet, or none are taken yet. The change will be reported.
-    NotYet,
-    /// The socket failed.
-    Failure,
 }
 
-/// What a read gave, and when.
-#[derive(Clone, Copy, Debug, PartialEq, Eq)]
-pub struct Received {
-    /// How many octets were read, if any had come.
-    pub moved: Transfer,
-    /// The time of the clock then, or `None` if it failed.
-    pub at: Option<Duration>,
+/// The sockets of all hosts.
+#[derive(Drop)]
+pub(crate) struct Sockets<'a, N> {
+    net: &'a N,
+    /// Without a poll of the system no host can be reached.
+    poll: Option<Poll>,
+    events: Events,
+    hosts: Vec<Host>,
+    /// The sockets that are to be served: the connection, and the attempt.
+    queue: VecDeque<(u32, usize)>,
+    /// How many sockets are open.
+    open: usize,
+    /// The octets that were read last, at the front.
+    piece: Vec<u8>,
 }
 
-/// How an attempt to connect stands.
-#[derive(Clone, Copy, Debug, PartialEq, Eq)]
-pub enum ConnectProgress {
-    /// The socket is connected.
-    Connected,
-    /// The host has not answered yet.
-    Pending,
-    /// The host refused, or cannot be reached.
-    Refused,
+fn token_of(c: u32, k: usize) -> Token {
+    Token(k.wrapping_mul(TOKENS).wrapping_add(c as usize))
 }
 
-/// Sockets to hosts. Of these calls only `resolve`, `wait` and `listen` wait for anything.
-///
-/// Each change of a socket is reported once. The next change is reported after a call that moved nothing yet, and
-/// after a read that filled its room only in part.
-///
-/// The contract of `ask_over` speaks of what the calls here gave, by the ghost members. Sockets in memory can tell
-/// exactly what they are; those of a system tell what their values say.
-pub trait Sockets {
-    ghost use Rattle.std.specs.declared.time.Duration.{Duration};
+/// Begins to connect, and to watch the stream. Small writes are sent at once (`TCP_NODELAY`).
+fn begin<N: Net>(net: &N, poll: &Poll, token: Token, address: SocketAddr) -> io::Result<TcpStream> {
+    let mut stream = TcpStream::connect(net, address)?;
+    stream.set_nodelay(true)?;
+    poll.registry().register(&mut stream, token, Interest::READABLE | Interest::WRITABLE)?;
+    Ok(stream)
+}
 
-    /// An address of a host.
-    type Address: Drop;
+impl<'a, N: Net> Sockets<'a, N> {
+    /// No sockets, for so many connections.
+    pub(crate) fn new(
+        alloc: Global,
+        net: &'a N,
+        count: usize,
+    ) -> Result<Sockets<'a, N>, AllocError> {
+        let mut hosts = Vec::new(alloc);
+        for _ in 0..count {
+            hosts.push(Host::new(alloc))?;
+        }
+        Ok(Sockets {
+            net,
+            poll: Poll::new(net).ok(),
+            events: Events::with_capacity(alloc, MOST_EVENTS)?,
+            hosts,
+            queue: VecDeque::new(alloc),
+            open: 0,
+            piece: vec![in alloc; 0; PIECE]?,
+        })
+    }
 
-    /// A socket to a host. It is closed when it is dropped.
-    type Socket: Drop;
+    /// Whether no socket is open.
+    pub(crate) fn is_idle(&self) -> bool {
+        self.open == 0
+    }
 
-    /// How far the octets of a socket were read.
-    type Cursor: Drop;
+    /// Whether a socket is to be served.
+    pub(crate) fn is_busy(&self) -> bool {
+        !self.queue.is_empty()
+    }
 
-    /// What the calls gave.
-    ghost facts: { SocketFacts Self.Address Self.Socket };
+    /// How many sockets are to be served.
+    pub(crate) fn queued(&self) -> usize {
+        self.queue.len()
+    }
 
-    /// The octets that come on a socket and were not read yet, in order, if they are known.
-    ghost octets_left: { Self.Socket → Self.Cursor → Option (List ℕ) };
+    /// The first `count` octets that were read last.
+    pub(crate) fn piece(&self, count: usize) -> &[u8] {
+        let all = self.piece.as_slice();
+        all.get(..count).unwrap_or(all)
+    }
 
-    /// When the last read gave nothing, if it did and it is known.
-    ghost idle_at: { Self.Cursor → Option Duration };
+    /// These are the addresses of a connection's host.
+    pub(crate) fn know(&mut self, c: u32, addresses: Vec<SocketAddr>) {
+        if let Some(host) = self.hosts.get_mut(c as usize) {
+            host.addresses = addresses;
+        }
+    }
 
-    /// The time since a fixed one, or `None` if the clock fails.
-    fn now(&self) -> Option<Duration>
-        ensures seen { IfSome result facts.IsMoment }
-        ensures fails { IfNone result facts.HasNoClock };
+    /// Begins an attempt to connect. Returns why it failed, if it did at once.
+    pub(crate) fn connect(&mut self, c: u32, k: usize) -> Result<Option<Report>, AllocError> {
+        let (Some(host), Some(poll)) = (self.hosts.get_mut(c as usize), &self.poll) else {
+            return Ok(Some(Report::Unreachable(k)));
+        };
+        let Some(address) = host.addresses.get(k).copied() else {
+            return Ok(Some(Report::Unreachable(k)));
+        };
+        match begin(self.net, poll, token_of(c, k), address) {
+            Ok(stream) => {
+                host.put(k, Socket::new(stream))?;
+                self.open = self.open.saturating_add(1);
+                Ok(None)
+            }
+            Err(error) if is_for_want(&error) => Ok(Some(Report::NoSocket(k))),
+            Err(_) => Ok(Some(Report::Unreachable(k))),
+        }
+    }
 
-    /// When connecting to hosts began: the time of the first such call. Each call gives the same time, or `None` if the
-    /// clock fails.
-    fn connecting_from(&self) -> Option<Duration>
-        ensures { IsTold facts.HasNoClock facts.IsMoment facts.IsConnectingFrom result };
+    /// Closes the socket of an attempt.
+    pub(crate) fn leave(&mut self, c: u32, k: usize) {
+        if let Some(host) = self.hosts.get_mut(c as usize)
+            && host.close(k)
+        {
+            self.open = self.open.saturating_sub(1);
+        }
+    }
 
-    /// The addresses that `host:port` stands for, in the order in which to try them. There are none if it is not
-    /// known.
-    fn resolve(&self, alloc: Global, text: &str) -> Result<Vec<Self::Address>, AllocError>
-        ensures { IfOk result (λ addresses. facts.AreFound text.now addresses.items) };
+    /// The buffer for octets to be sent on a connection.
+    pub(crate) fn unsent(&mut self, c: u32) -> Option<&mut Vec<u8>> {
+        Some(&mut self.hosts.get_mut(c as usize)?.unsent)
+    }
 
-    /// Begins to connect, and to report changes of the socket under this token. No other open socket has the token.
-    fn connect(&self, token: usize, address: &Self::Address) -> Option<Self::Socket>
-        ensures { facts.IsOpening address.now result };
+    /// Serves the socket of a connection: what waits to be sent is written at once, or once it is ready.
+    pub(crate) fn send(&mut self, c: u32) -> Result<Option<Report>, AllocError> {
+        let Some(k) = self.connected(c) else {
+            return Ok(None);
+        };
+        self.write(c, k)
+    }
 
-    /// How the attempt to connect stands. It may stay pending until the socket is reported writable.
-    fn progress(&self, socket: &Self::Socket) -> ConnectProgress
-        ensures { AfterProgress facts socket.now result };
+    /// From now on octets of a connection are wanted.
+    pub(crate) fn read_on(&mut self, c: u32) -> Result<(), AllocError> {
+        if let Some(host) = self.hosts.get_mut(c as usize) {
+            host.is_wanted = true;
+        }
+        match self.connected(c) {
+            Some(k) => self.queue_if_ready(c, k),
+            None => Ok(()),
+        }
+    }
 
-    /// The cursor of a socket of which no octets were read yet.
-    fn first(socket: &Self::Socket) -> Self::Cursor
-        ensures octets { octets_left socket.now result ≡ facts.octets socket.now }
-        ensures idle { idle_at result ≡ None };
+    /// The attempt of a connection that has connected.
+    fn connected(&self, c: u32) -> Option<usize> {
+        self.hosts.get(c as usize)?.connected
+    }
 
-    /// When this socket was first listened to: the time of the first such call for it. Each call gives the same time,
-    /// or `None` if the clock fails.
-    fn listened_from(&self, socket: &Self::Socket) -> Option<Duration>
-        ensures { IsTold facts.HasNoClock facts.IsMoment (facts.IsListenedFrom socket.now) result };
+    /// Puts a socket behind those that are to be served.
+    fn queue(&mut self, c: u32, k: usize) -> Result<(), AllocError> {
+        if let Some(host) = self.hosts.get_mut(c as usize)
+            && let Some(socket) = host.socket(k)
+            && !socket.is_queued
+        {
+            socket.is_queued = true;
+            self.queue.push_back((c, k))?;
+        }
+        Ok(())
+    }
 
-    /// It may be waited until this time for hosts to connect. Sockets in memory can forbid other waits; those of a
-    /// system allow each.
-    ghost MayWait: { Duration → Type 0 };
+    /// The same, if octets are to be written on it or read of it.
+    fn queue_if_ready(&mut self, c: u32, k: usize) -> Result<(), AllocError> {
+        match self.hosts.get(c as usize) {
+            Some(host) if host.is_to_write(k) || host.is_to_read(k) => self.queue(c, k),
+            _ => Ok(()),
+        }
+    }
 
-    /// It may be waited until this time for octets of a socket, of which these are left to come.
-    ghost MayListen: { Self.Socket → Option (List ℕ) → Duration → Type 0 };
+    /// Waits until sockets are ready, or the time is up, and notes which are to be served.
+    pub(crate) fn wait(&mut self, most: Option<Duration>) -> Result<(), AllocError> {
+        let Some(poll) = &mut self.poll else {
+            return Ok(());
+        };
+        if poll.poll(&mut self.events, most).is_err() {
+            return Ok(());
+        }
+        for event in &self.events {
+            let token = event.token().0;
+            let c = token % TOKENS;
+            let k = token / TOKENS;
+            if let Some(host) = self.hosts.get_mut(c)
+                && let Some(socket) = host.socket(k)
+            {
+                socket.note(event);
+                if !socket.is_queued {
+                    socket.is_queued = true;
+                    self.queue.push_back((c as u32, k))?;
+                }
+            }
+        }
+        Ok(())
+    }
 
-    /// Waits for reports until this time, and at most for `most`, and notes them in `ready` by token. Returns whether a
-    /// flag is set that was not.
-    fn wait(&self, until: Duration, most: Duration, ready: &mut [Readiness]) -> bool
-        requires { IsAllowed MayWait until most };
+    /// Serves the next socket that is to be served. Returns its connection and what happened on it, if anything did.
+    pub(crate) fn serve(&mut self) -> Result<Option<(u32, Happening)>, AllocError> {
+        let Some((c, k)) = self.queue.pop_front() else {
+            return Ok(None);
+        };
+        match self.serve_one(c, k)? {
+            Some(happening) => Ok(Some((c, happening))),
+            None => Ok(None),
+        }
+    }
 
-    /// Does what `wait` does, to read octets of a socket from where the last read ended.
-    fn listen(
-        &self,
-        socket: &Self::Socket,
-        cursor: &Self::Cursor,
-        until: Duration,
-        most: Duration,
-        ready: &mut [Readiness],
-    ) -> bool
-        requires { IsAllowed (MayListen socket.now (octets_left socket.now cursor.now)) until most };
+    fn serve_one(&mut self, c: u32, k: usize) -> Result<Option<Happening>, AllocError> {
+        let Some(host) = self.hosts.get_mut(c as usize) else {
+            return Ok(None);
+        };
+        let Some(socket) = host.socket(k) else {
+            return Ok(None);
+        };
+        socket.is_queued = false;
+        if !socket.is_connected {
+            return Ok(self.look(c, k));
+        }
+        if host.is_to_write(k) {
+            return match self.write(c, k)? {
+                Some(report) => Ok(Some(Happening::Report(report))),
+                None => Ok(None),
+            };
+        }
+        if host.is_to_read(k) {
+            return self.read(c, k);
+        }
+        Ok(None)
+    }
 
-    /// A socket may be read on after a read that gave nothing at this time, since none of these octets had come.
-    ghost MayReadOn: { Self.Socket → Option (List ℕ) → Duration → Type 0 };
+    /// Looks how an attempt to connect stands.
+    fn look(&mut self, c: u32, k: usize) -> Option<Happening> {
+        let host = self.hosts.get_mut(c as usize)?;
+        let socket = host.socket(k)?;
+        match socket.progress() {
+            Progress::Connected => {
+                socket.is_connected = true;
+                host.connected = host.connected.or(Some(k));
+                Some(Happening::Report(Report::Connected(k)))
+            }
+            Progress::Refused => {
+                self.leave(c, k);
+                Some(Happening::Report(Report::Unreachable(k)))
+            }
+            Progress::Pending => None,
+        }
+    }
 
-    /// Reads octets into the front of `piece`, from where the last read ended. It does not wait.
-    fn read(&self, socket: &Self::Socket, cursor: &mut Self::Cursor, piece: &mut [u8]) -> Received
-        requires { ForSome (idle_at cursor.old) (λ time.
-            ∥ MayReadOn socket.now (octets_left socket.now cursor.old) time ∥₁) }
-        ensures bound { IsBoundedTransfer result.moved (length piece.new) }
-        ensures octets { AfterReadFrom (octets_left socket.now cursor.old) (octets_left socket.now cursor.new)
-            result.moved piece.new }
-        ensures received { AfterReceive facts socket.now (octets_left socket.now cursor.new) result }
-        ensures idle { IsIdleNoted (idle_at cursor.new) result };
+    /// Writes what waits on a connection.
+    fn write(&mut self, c: u32, k: usize) -> Result<Option<Report>, AllocError> {
+        let Some(host) = self.hosts.get_mut(c as usize) else {
+            return Ok(None);
+        };
+        if !host.is_to_write(k) {
+            return Ok(None);
+        }
+        let moved = host.write(k);
+        self.queue_if_ready(c, k)?;
+        match moved {
+            Moved::Octets(_) => Ok(Some(Report::Taken)),
+            Moved::Failure => Ok(Some(Report::Unwritable)),
+            _ => Ok(None),
+        }
+    }
 
-    /// Writes a front of `piece`.
-    fn write(&self, socket: &Self::Socket, piece: &[u8]) -> Transfer
-        ensures bound { IsBoundedTransfer result (length piece.now) }
-        ensures broken { IsBrokenIf facts.IsBroken socket.now result };
-
-    /// Takes note that a socket is given up after so many looks. It is not connected yet, or no octets have come yet,
-    /// and no limit was reached.
-    fn give_up(&self, socket: &Self::Socket, looks: u64)
-        ensures { facts.IsGivenUp socket.now looks };
+    /// Reads octets of a connection.
+    fn read(&mut self, c: u32, k: usize) -> Result<Option<Happening>, AllocError> {
+        let Some(host) = self.hosts.get_mut(c as usize) else {
+            return Ok(None);
+        };
+        let Some(socket) = host.socket(k) else {
+            return Ok(None);
+        };
+        let moved = socket.read(&mut self.piece);
+        self.queue_if_ready(c, k)?;
+        match moved {
+            Moved::Octets(count) => Ok(Some(Happening::Octets(count))),
+            Moved::End => Ok(Some(Happening::Report(Report::End))),
+            Moved::Failure => Ok(Some(Happening::Report(Report::Unreadable))),
+            Moved::Nothing => Ok(None),
+        }
+    }
 }

@@ -1,5 +1,5 @@
 // What `zoom` hands out beside what the other tests here call through it: what waits is pushed, and a source is read by
-// its bound. `ask`, `ask_at_once`, `serve` and `run_loopback` are called through it by the commands.
+// its bound. `ask`, `serve` and `run_loopback` are called through it by the commands.
 use crate::talks::{Case, has, new_meta, sink_of, source_of, written_digits};
 use std::alloc::Global;
 use std::process::Abort;

@@ -7,21 +7,15 @@ mod answers;
 #[cfg(test)]
 mod arranged;
 #[cfg(test)]
-mod asking;
-#[cfg(test)]
 mod failing;
 #[cfg(test)]
 mod heads;
 #[cfg(test)]
 mod hosts;
 #[cfg(test)]
-mod known;
-#[cfg(test)]
 mod metas;
 #[cfg(test)]
 mod moves;
-#[cfg(test)]
-mod peers;
 #[cfg(test)]
 mod pool;
 #[cfg(test)]
@@ -30,10 +24,6 @@ mod refusals;
 mod sessions;
 #[cfg(test)]
 mod talks;
-#[cfg(test)]
-mod timed;
-#[cfg(test)]
-mod together;
 #[cfg(test)]
 mod windows;
 #[cfg(test)]

@@ -51,7 +51,7 @@ fn ranges_wanted(alloc: Global, is_parted: bool) -> Result<Vec<Range>, AllocErro
 }
 
 // These records of a database `d`, of those that match.
-pub(crate) fn question(alloc: Global, is_parted: bool) -> Result<Question, Unread>
+fn question(alloc: Global, is_parted: bool) -> Result<Question, Unread>
     ensures { IfOk result IsAskable }
 {
     let Ok(databases) = vec![in alloc; Bytes::from_static(b"d")] else {

@@ -140,16 +140,6 @@ pub(crate) fn sink_of(alloc: Global, case: Case) -> Counting<Kept> {
     })
 }
 
-// A sink that takes all that it is given.
-pub(crate) fn empty_sink(alloc: Global) -> Counting<Kept> {
-    Counting::new(Kept {
-        octets: Vec::new(alloc),
-        step: usize::MAX,
-        calls: 0,
-        fails_at: 0,
-    })
-}
-
 // How often a source was read, and a sink written.
 pub(crate) fn reads_of(source: Counting<Given<'_>>) -> usize {
     let Given {
@@ -184,7 +174,7 @@ pub(crate) fn written_digits(alloc: Global, sink: Counting<Kept>) -> Result<Stri
 }
 
 // What is found of a database `d` alone.
-pub(crate) fn question(alloc: Global) -> Result<Question, Unread>
+fn question(alloc: Global) -> Result<Question, Unread>
     ensures { IfOk result IsAskable }
 {
     let Ok(databases) = vec![in alloc; Bytes::from_static(b"d")] else {
