@@ -5,7 +5,8 @@ _zmeta_syntaxes='marc21 unimarc xml sutrs opac grs1'
 _zmeta_terms='--title --author --subject --isbn --any'
 _zmeta_search="$_zmeta_terms --query --records --elements --syntax"
 _zmeta_views='--titles --json --hex'
-_zmeta_limits='--connect --patience --within --ipv4 --ipv6'
+_zmeta_limits='--connect --patience --within'
+_zmeta_families='--ipv4 --ipv6'
 
 # Files, where $1 stands before their names in the word, and $2 is what is typed of a name.
 _zmeta_files() {
@@ -30,7 +31,7 @@ _zmeta_may() {
         --title | --author | --subject | --isbn | --any) excluded=--query ;;
         --query) excluded="--query $_zmeta_terms" ;;
         --titles | --json | --hex) excluded=$_zmeta_views ;;
-        --ipv4 | --ipv6) excluded='--ipv4 --ipv6 -4 -6' ;;
+        --ipv4 | --ipv6) excluded="$_zmeta_families -4 -6" ;;
         *) excluded=$1 ;;
     esac
     for other in $excluded; do
@@ -43,7 +44,7 @@ _zmeta_may() {
 _zmeta_options() {
     local options='' left='-h --help' option
     case $1 in
-        ask) options="--at-once $_zmeta_limits --only $_zmeta_search $_zmeta_views --save" ;;
+        ask) options="--at-once $_zmeta_limits $_zmeta_families --only $_zmeta_search $_zmeta_views --save" ;;
         run | loop) options="$_zmeta_search $_zmeta_views --save" ;;
         join) options=$_zmeta_views ;;
         records) options='--only --syntax --conflicts' ;;
@@ -94,7 +95,7 @@ _zmeta_any() {
                 given+=" ${last%%=*}"
                 [[ $valued == *" $last "* ]] && i=$((i + 1))
                 ;;
-            -?*) ;;
+            -?*) given+=" $last" ;;
             *) place=$((place + 1)) ;;
         esac
     done
