@@ -96,8 +96,8 @@ fn addresses_of(temper: Temper, dice: &mut Dice) -> usize {
     }
 }
 
-// How long it takes to resolve a name: no time if it is an address in numbers, and sometimes longer than a host may take
-// to connect.
+// How long it takes to resolve a name: no time if it is an address in numbers, and sometimes longer than a host may
+// take to connect.
 fn resolves_in(dice: &mut Dice) -> u64 {
     if dice.number_below(4) == 0 {
         dice.number_below(1_200 * MILLISECOND)

@@ -1,3 +1,4 @@
 pub mod Asking
 pub mod Clients
+pub mod Families
 pub mod Serving

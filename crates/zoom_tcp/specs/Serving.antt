@@ -5,8 +5,12 @@ use Rattle.zoom_io.specs.declared.replies.AnswerError.{AnswerError}
 use Rattle.zoom_io.specs.declared.replies.AnswerError.TheVariants as answers
 use Rattle.zoom_io.specs.Devices.{DeviceState}
 use Rattle.zoom_io.specs.Answering.{ExchangeResult, IsExchangeEnd}
+use Rattle.zoom_io.specs.declared.stream.Counting.{Counting}
+use Rattle.zoom_tcp.specs.Clients.{tcp_state, IsTcpArrival, IsTcpDeparture}
 use Rattle.zoom_tcp.specs.declared.clients.Arrival.{Arrival}
 use Rattle.zoom_tcp.specs.declared.clients.Arrival.TheVariants.{Client, Gone, NoClient}
+use Rattle.zoom_tcp.specs.declared.clients.TcpClients.{TcpClients}
+use Rattle.zoom_tcp.specs.declared.link.Timed.{Timed}
 use Rattle.zoom_tcp.specs.declared.service.ServeError.{ServeError}
 use Rattle.zoom_tcp.specs.declared.service.ServeError.TheVariants as errors
 
@@ -55,3 +59,10 @@ module _ {K R W : Type 0} (IsArrival : K → Arrival R W → K → Type 0) (IsDe
   AfterServe count (Ok _) old new = AreServed old count new
   AfterServe count (Err error) old new =
       (n : ℕ) × (before : K) × (n < count) × AreServed old n before × AfterServeNext (Err error) before new
+
+-- After serving `count` clients of a listener over TCP, by a clock of type C, with streams of type S: each was served,
+-- or those before the one that was refused.
+abbrev pub AfterServeAt : (C L S : Type 0) → L → Holdings → ℕ → Result (Unit {0}) ServeError → Type 0
+AfterServeAt C L S listener holdings count result = (first last : TcpClients C L) × (first.listener.now ≡ listener)
+    × AfterServe IsTcpArrival IsTcpDeparture (λ (source : Counting (Timed C S)). tcp_state source) tcp_state holdings
+    count result first last

@@ -4,7 +4,7 @@ ghost use Rattle.zoom_questions.specs.Askable.{AreFit, AreAskable};
 ghost use Rattle.zoom_tcp.specs.Asking.{IsAsked, IsReportedOn, asked_host, hosts_of};
 
 use crate::limits::{Family, Limits};
-use crate::names::{Names, address_in, resolve};
+use crate::names::{Names, addresses_in, resolve};
 use crate::sockets::{Happening, Sockets};
 use crate::stopwatch::Stopwatch;
 use crate::watch::Watch;
@@ -19,12 +19,12 @@ use zoom_pool::{Meta, MetaSettings, Question};
 
 /// Puts each question to the host at the address (`host:port`) with its number, if it has one (Z39.50-2003, 3.2). All
 /// are connected to side by side, without threads. They are talked with at once or in order, as `manner` says. A host
-/// costs its own connection alone if it cannot be reached, fails, or exceeds `limits`. Nothing happens on the connection
-/// of a question without an address.
+/// costs its own connection alone if it cannot be reached, fails, or exceeds `limits`. Nothing happens on the
+/// connection of a question without an address.
 ///
-/// Hosts with an address in numbers are connected to first. Then the names are looked up, each once. A look-up waits for
-/// the name service of the system, and nobody is served meanwhile. So before the first, and after each for as long as
-/// it took, the hosts that were found are served.
+/// Hosts with an address in numbers are connected to first. Then the names are looked up, each once. A look-up waits
+/// for the name service of the system, and nobody is served meanwhile. So before the first, and after each for as long
+/// as it took, the hosts that were found are served.
 ///
 /// Returns an error only if no memory is found.
 pub fn ask<N: Net + Clock, V: Watch>(
@@ -162,15 +162,8 @@ impl<'a, N: Net + Clock> Shell<'a, N> {
         ensures on { OnOk result (IsReportedOn asking.old asking.new) }
         ensures size { length asking.new.meta.pool.connections ≡ length asking.old.meta.pool.connections }
     {
-        match address_in(name.as_slice()) {
-            Some(address) => {
-                let addresses = if self.family.has(&address) {
-                    vec![in self.alloc; address]?
-                } else {
-                    Vec::new(self.alloc)
-                };
-                self.resolved(asking, c, addresses)
-            }
+        match addresses_in(self.alloc, name.as_slice(), self.family)? {
+            Some(addresses) => self.resolved(asking, c, addresses),
             None => self.names.put(c, name.clone()?),
         }
     }
@@ -190,7 +183,7 @@ impl<'a, N: Net + Clock> Shell<'a, N> {
         tell(asking, self.now, c, Report::Resolved(count))
     }
 
-    /// Goes on until each connection is over, or a caller would wait for ever. Returns whether they are over.
+    /// Goes on until each connection is over, for 2^64 - 1 wakes at most. Returns whether they are over.
     fn go<V: Watch>(&mut self, asking: &mut Asking, watch: &mut V) -> Result<bool, AllocError>
         requires few { length asking.old.meta.pool.connections < 2 ^ 32 }
         ensures on { OnOk result (IsReportedOn asking.old asking.new) }

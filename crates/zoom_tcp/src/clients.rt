@@ -1,8 +1,9 @@
 //! Clients that arrive one after the other, and those of a listening socket.
-ghost use Rattle.zoom_tcp.specs.Clients.{IsFreshArrival};
+ghost use Rattle.std.specs.Prelude.{◌≡◌};
+ghost use Rattle.zoom_tcp.specs.Clients.{IsFreshArrival, IsTcpArrival, IsTcpDeparture};
 
+use crate::failures::is_passing;
 use crate::link::{TcpLink, Timed};
-use crate::wants::is_passing;
 use std::io::{Read, Write};
 use std::net::{OpenListener, OpenStream};
 use std::thread::sleep;
@@ -48,7 +49,9 @@ pub struct TcpClients<'a, C, L> {
 
 impl<'a, C: Clock, L: OpenListener> TcpClients<'a, C, L> {
     /// The clients of this socket. It does not wait for any.
-    pub fn new(clock: &'a C, listener: &'a L) -> TcpClients<'a, C, L> {
+    pub fn new(clock: &'a C, listener: &'a L) -> TcpClients<'a, C, L>
+        ensures { result.listener ≡ listener.entry }
+    {
         TcpClients { clock, listener }
     }
 }
@@ -79,9 +82,9 @@ impl<'a, C: Clock, S: Read + Write + OpenStream + Drop, L: OpenListener<Stream =
     Device<'a, C, S>,
     Device<'a, C, S>,
 > for TcpClients<'a, C, L> {
-    ghost IsArrival = { λ k arrival l. IsFreshArrival (λ d. d.failures) (λ d. d.failures) arrival };
+    ghost IsArrival = { λ k arrival l. IsTcpArrival k arrival l };
 
-    ghost IsDeparture = { λ k source sink l. Unit {0} };
+    ghost IsDeparture = { λ k source sink l. IsTcpDeparture k source sink l };
 
     fn next_client(&mut self) -> Arrival<Device<'a, C, S>, Device<'a, C, S>> {
         for _ in 0..u64::MAX {

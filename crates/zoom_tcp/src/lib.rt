@@ -3,15 +3,16 @@
 
 mod asking;
 mod clients;
-mod hosts;
+mod failures;
+mod host;
 mod limits;
 mod link;
 mod loopback;
 mod names;
 mod service;
+mod socket;
 mod sockets;
 mod stopwatch;
-mod wants;
 mod watch;
 
 pub use asking::ask;

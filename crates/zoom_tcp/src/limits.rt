@@ -2,6 +2,7 @@
 ghost use Rattle.std.specs.Prelude.{◌≡◌, ◌*◌, ◌^◌, ◌-◌, ◌<◌, min, true, false};
 ghost use Rattle.std.specs.Duration.{as_nanos};
 ghost use Rattle.zoom_tcp.specs.Asking.{nanos, total_of, asked_host};
+ghost use Rattle.zoom_tcp.specs.Families.{is_used};
 
 use std::net::SocketAddr;
 use std::time::Duration;
@@ -20,7 +21,9 @@ pub enum Family {
 
 impl Family {
     /// Whether an address is used.
-    pub(crate) fn has(&self, address: &SocketAddr) -> bool {
+    pub(crate) fn has(&self, address: &SocketAddr) -> bool
+        ensures { result ≡ is_used self.now address.now }
+    {
         match self {
             Family::Any => true,
             Family::V4 => address.is_ipv4(),

@@ -1,4 +1,7 @@
 //! The names of hosts, and when each is to be resolved.
+ghost use Rattle.std.specs.Prelude.{IfOk, IfSome, OnOk};
+ghost use Rattle.zoom_tcp.specs.Families.{AreUsed};
+
 use crate::limits::Family;
 use bytes::Bytes;
 use indexmap::IndexMap;
@@ -66,19 +69,52 @@ impl Names {
     }
 }
 
+/// The addresses of a name that is one in numbers: itself, or none if it is not used. `None` if it is another name.
+pub(crate) fn addresses_in(
+    alloc: Global,
+    name: &[u8],
+    family: Family,
+) -> Result<Option<Vec<SocketAddr>>, AllocError>
+    ensures { IfOk result (λ found. IfSome found (λ addresses. AreUsed family addresses.items)) }
+{
+    let Some(address) = address_in(name) else {
+        return Ok(None);
+    };
+    let mut addresses = Vec::new(alloc);
+    push_used(&mut addresses, family, address)?;
+    Ok(Some(addresses))
+}
+
 /// The address that stands for itself, if the name is one in numbers.
-pub(crate) fn address_in(name: &[u8]) -> Option<SocketAddr> {
+fn address_in(name: &[u8]) -> Option<SocketAddr> {
     str::from_utf8(name).ok()?.parse::<SocketAddr>().ok()
 }
 
-/// The addresses of a name, `host:port`, in the order in which to try them. There are none if it is not known. It waits
-/// for the system's name service.
+/// Adds an address, if it is used.
+fn push_used(
+    addresses: &mut Vec<SocketAddr>,
+    family: Family,
+    address: SocketAddr,
+) -> Result<(), AllocError>
+    requires used { AreUsed family addresses.old.items }
+    ensures used { OnOk result (AreUsed family addresses.new.items) }
+{
+    if family.has(&address) {
+        addresses.push(address)?;
+    }
+    Ok(())
+}
+
+/// The used addresses of a name, `host:port`, in the order in which to try them. There are none if it is not known. It
+/// waits for the system's name service.
 pub(crate) fn resolve<N: Net>(
     alloc: Global,
     net: &N,
     name: &[u8],
     family: Family,
-) -> Result<Vec<SocketAddr>, AllocError> {
+) -> Result<Vec<SocketAddr>, AllocError>
+    ensures { IfOk result (λ addresses. AreUsed family addresses.items) }
+{
     let mut addresses = Vec::new(alloc);
     let Ok(text) = str::from_utf8(name) else {
         return Ok(addresses);
@@ -87,9 +123,7 @@ pub(crate) fn resolve<N: Net>(
         return Ok(addresses);
     };
     for address in found {
-        if family.has(&address) {
-            addresses.push(address)?;
-        }
+        push_used(&mut addresses, family, address)?;
     }
     Ok(addresses)
 }

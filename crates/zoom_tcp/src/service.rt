@@ -2,7 +2,7 @@
 ghost use Rattle.std.specs.Prelude.{◌≡◌, ◌<◌, ◌^◌, length, OnOk, OnErr};
 ghost use Rattle.zoom_tcp.specs.declared.service.ServeError.TheVariants.{Memory};
 ghost use Rattle.ztarget.specs.Searching.{entries_in};
-ghost use Rattle.zoom_tcp.specs.Serving.{IsAnswered, IsStarved, AfterServeNext, AfterServe};
+ghost use Rattle.zoom_tcp.specs.Serving.{IsAnswered, IsStarved, AfterServeNext, AfterServe, AfterServeAt};
 
 use crate::clients::{Arrival, Clients, TcpClients};
 use std::alloc::{AllocError, Global};
@@ -42,7 +42,7 @@ impl From<AllocError> for ServeError {
 /// seconds or takes more than an hour. The databases have fewer than 2^32 entries. If `count` is 0, nothing is done,
 /// and the call succeeds.
 ///
-/// Refusals: `Listen` if no connection can be accepted, and `Memory`.
+/// Refusals: `Listen` if no connection can be accepted, and `Memory`. The clients before were served.
 pub fn serve<C: Clock, L: OpenListener>(
     alloc: Global,
     clock: &C,
@@ -54,6 +54,8 @@ pub fn serve<C: Clock, L: OpenListener>(
 where
     L::Stream: Read + Write + OpenStream,
     requires { length (entries_in databases.now) < 2 ^ 32 }
+    ensures served { AfterServeAt C L L.Stream listener.now
+        (record { databases = databases.now; settings = settings }) count result }
     ensures none { count ≡ 0 → result ≡ Ok tt }
 {
     let mut clients = TcpClients::new(clock, listener);

@@ -1,6 +1,7 @@
 //! The sockets of all hosts, watched by one poll of the system.
-use crate::hosts::{Host, Moved, Progress, Socket};
-use crate::wants::is_for_want;
+use crate::failures::is_for_want;
+use crate::host::Host;
+use crate::socket::{Moved, Progress, Socket};
 use mio::event::Event;
 use mio::net::TcpStream;
 use mio::{Events, Interest, Poll, Token};
@@ -39,6 +40,8 @@ pub(crate) struct Sockets<'a, N> {
     hosts: Vec<Host>,
     /// The sockets that are to be served: the connection, and the attempt.
     queue: VecDeque<(u32, usize)>,
+    /// The sockets that were read since the last wait.
+    heard: Vec<(u32, usize)>,
     /// How many sockets are open.
     open: usize,
     /// The octets that were read last, at the front.
@@ -74,6 +77,7 @@ impl<'a, N: Net> Sockets<'a, N> {
             events: Events::with_capacity(alloc, MOST_EVENTS)?,
             hosts,
             queue: VecDeque::new(alloc),
+            heard: Vec::new(alloc),
             open: 0,
             piece: vec![in alloc; 0; PIECE]?,
         })
@@ -184,8 +188,21 @@ impl<'a, N: Net> Sockets<'a, N> {
         }
     }
 
+    /// Has the system acknowledge what was read since the last wait, where nothing was answered.
+    fn acknowledge(&mut self) {
+        for (c, k) in &self.heard {
+            if let Some(host) = self.hosts.get_mut(*c as usize)
+                && let Some(socket) = host.socket(*k)
+            {
+                socket.acknowledge();
+            }
+        }
+        self.heard.clear();
+    }
+
     /// Waits until sockets are ready, or the time is up, and notes which are to be served.
     pub(crate) fn wait(&mut self, most: Option<Duration>) -> Result<(), AllocError> {
+        self.acknowledge();
         let Some(poll) = &mut self.poll else {
             return Ok(());
         };
@@ -287,6 +304,7 @@ impl<'a, N: Net> Sockets<'a, N> {
             return Ok(None);
         };
         let moved = socket.read(&mut self.piece);
+        self.heard.push((c, k))?;
         self.queue_if_ready(c, k)?;
         match moved {
             Moved::Octets(count) => Ok(Some(Happening::Octets(count))),

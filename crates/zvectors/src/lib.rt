@@ -1,5 +1,5 @@
-//! Sessions of origins, pools, hosts and driven connections, step by step, and world files that are read: the tests that
-//! cross the crates above what is known.
+//! Sessions of origins, pools, hosts and driven connections, step by step, and world files that are read: the tests
+//! that cross the crates above what is known.
 #![tactic(auto)]
 
 #[cfg(test)]

@@ -1,5 +1,5 @@
 use Rattle.std.proofs.Common.{◌+◌, ◌-◌, length}
-use Rattle.zoom_tcp.proofs.hosts.Host.put.Given as goal
+use Rattle.zoom_tcp.proofs.host.Host.put.Given as goal
 
 abbrev pub invariant-loop-self : goal.invariant-loop-self
 invariant-loop-self l = Unit {0}
