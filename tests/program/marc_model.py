@@ -52,6 +52,12 @@ def fields_of(octets):
     return fields
 
 
+def own_octets(octets):
+    """The octets of the record itself: as many as its leader tells, where that can be; else all."""
+    told = decimal(octets[:5]) if len(octets) >= 24 else None
+    return octets[:told] if told is not None and 24 <= told <= len(octets) else octets
+
+
 class Record:
     """The fields of a record by tag, and their subfields by code."""
 
@@ -232,7 +238,7 @@ def marc_entry(form, octets):
     if fields is None:
         return "", f"no record, {len(octets)} octets"
     record = Record(fields)
-    is_utf8 = form.says_utf8(octets, record) or is_utf8_beyond_ascii(octets)
+    is_utf8 = form.says_utf8(octets, record) or is_utf8_beyond_ascii(own_octets(octets))
     meant = utf8_text if is_utf8 else form.other_text
     line = ""
     for piece in [*title(form, record), *maker(form, record), *isbn(form, record)]:

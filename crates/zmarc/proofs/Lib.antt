@@ -1,3 +1,5 @@
+pub mod AnselTheory
+pub mod BehindTheory
 pub mod BriefTheory
 pub mod Cuts
 pub mod FieldTheory
@@ -5,6 +7,6 @@ pub mod LawTheory
 pub mod NothingTheory
 pub mod SafeTheory
 pub mod ShownTheory
-pub mod Steps
 pub mod SubfieldTheory
+pub mod TitleTheory
 pub mod WrittenTheory

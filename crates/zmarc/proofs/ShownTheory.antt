@@ -1,10 +1,13 @@
 -- What is shown of lists of characters, one after the other.
-use Rattle.std.proofs.Common.{◌≡◌, ℕ, Bool, true, false, cond, not, ◌+◌, ◌<◌, ◌≤◌, List, [], ◌∷◌, ◌++◌, length, drop, get_or, refl, sym, ap, ◌∙◌, append_assoc}
+use Rattle.std.proofs.Common.{◌≡◌, ℕ, Bool, true, false, cond, not, ◌+◌, ◌<◌, List, [], ◌∷◌, ◌++◌, length, take, get_or, refl, sym, ap, ◌∙◌, append_assoc}
 use Rattle.std.specs.Prelude.{map, filter}
 use Rattle.std.specs.Char.{encode_utf8}
-use Rattle.std.specs.Str.{encode_utf8_all}
-use Rattle.std.proofs.lemmas.List.{append-nil, drop_more, drop_all}
+use Rattle.std.specs.Str.{encode_utf8_all, IsCharBoundary}
+use Rattle.std.proofs.lemmas.List.{append-nil, take_more}
+use Rattle.std.proofs.lemmas.Str.{IsCharBoundary-at_seam}
+use Rattle.std.proofs.Math.Seq.{take-append_seam}
 use Rattle.zmarc.specs.Shown.{is_sort_mark, shown, shown_text}
+use Rattle.zmarc.proofs.SafeTheory.{shown_is_safe}
 
 pub shown_text_nil : shown_text [] ≡ []
 unfolding shown_text
@@ -36,14 +39,24 @@ shown_text_append [] ys = refl
 shown_text_append (x ∷ xs) ys =
     kept_append (not (is_sort_mark x)) x (kept xs) (kept ys) (kept (xs ++ ys)) (shown_text_append xs ys)
 
-pub shown_text_cons : (c : ℕ) (cs : List ℕ) → shown_text (c ∷ cs) ≡ shown_text (c ∷ []) ++ shown_text cs
-shown_text_cons c cs = shown_text_append (c ∷ []) cs
+-- one character more is shown
+pub shown_more : (cs : List ℕ) (i c : ℕ) (line next : List ℕ) → i < length cs → get_or cs i c ≡ c
+    → (now : List ℕ) → now ≡ line ++ shown_text (take i cs) → next ≡ now ++ shown_text (c ∷ [])
+    → next ≡ line ++ shown_text (take (i + 1) cs)
+shown_more cs i c line next h is now so_far grown =
+    grown ∙ ap (λ l. l ++ shown_text (c ∷ [])) so_far
+    ∙ append_assoc line (shown_text (take i cs)) (shown_text (c ∷ []))
+    ∙ ap (λ l. line ++ l) (sym (shown_text_append (take i cs) (c ∷ [])))
+    ∙ ap (λ x. line ++ shown_text (take i cs ++ x ∷ [])) (sym is)
+    ∙ ap (λ l. line ++ shown_text l) (sym (take_more cs i c h))
 
-pub shown_next : (cs : List ℕ) (i c : ℕ) → i < length cs → get_or cs i c ≡ c
-    → shown_text (drop i cs) ≡ shown_text (c ∷ []) ++ shown_text (drop (i + 1) cs)
-shown_next cs i c h is =
-    ap shown_text (drop_more cs i c h) ∙ ap (λ x. shown_text (x ∷ drop (i + 1) cs)) is
-    ∙ shown_text_cons c (drop (i + 1) cs)
+-- ---- what is cut off again
 
-pub shown_end : (cs : List ℕ) (i : ℕ) → length cs ≤ i → shown_text (drop i cs) ≡ []
-shown_end cs i h = ap shown_text (drop_all i cs h) ∙ shown_text_nil
+-- a line may be cut where characters begin that are shown
+pub may_cut : (line next cs : List ℕ) (n : ℕ) → next ≡ line ++ shown_text cs → n ≡ length line → IsCharBoundary next n
+may_cut line next cs n grown is =
+    rw is (IsCharBoundary-at_seam next line (shown_text cs) grown (shown_is_safe cs).utf8)
+
+pub cut_back : (line next cs : List ℕ) (n : ℕ) → next ≡ line ++ shown_text cs → n ≡ length line → take n next ≡ line
+cut_back line next cs n grown is =
+    ap (λ l. take n l) grown ∙ ap (λ k. take k (line ++ shown_text cs)) is ∙ take-append_seam line (shown_text cs)

@@ -10,7 +10,7 @@ use Rattle.zmarc.specs.declared.format.Format.{Format}
 use Rattle.zmarc.specs.declared.format.Format.TheVariants.{Marc21, Unimarc}
 use Rattle.zmarc.specs.Charsets.{is_utf8_beyond_ascii, text}
 use Rattle.zmarc.specs.Isbns.{isbn}
-use Rattle.zmarc.specs.Records.{first_field, is_record}
+use Rattle.zmarc.specs.Records.{first_field, is_record, own_octets}
 use Rattle.zmarc.specs.Subfields.{Subfield, subfields, subfield_in}
 
 -- ---- the title, and who made it
@@ -74,7 +74,7 @@ maker format octets =
 
 -- ---- the text
 
--- what is shown, in the octets of the record
+-- what is shown: octets of the record, with marks and words between them
 unfoldable pub pieces : Format → List ℕ → List (List ℕ)
 pieces format octets =
     title format octets ++ maker format octets ++ isbn format octets
@@ -94,19 +94,20 @@ abbrev pub other_charset : Format → Charset
 other_charset Marc21 = Marc8
 other_charset Unimarc = Ascii
 
--- the character set: UTF-8 also where the record does not say so, and is UTF-8 as a whole with octets beyond ASCII
+-- the character set: UTF-8 also where the record does not say so, and its own octets are UTF-8 as a whole, with octets
+-- beyond ASCII
 abbrev pub charset : Format → List ℕ → Charset
 charset format octets =
-    if declares_utf8 format octets || is_utf8_beyond_ascii octets then Utf8 else other_charset format
+    if declares_utf8 format octets || is_utf8_beyond_ascii (own_octets octets) then Utf8 else other_charset format
 
--- a piece behind a line, with a space between them where the line has anything
+-- a piece behind a line, with a space between them unless the line is empty
 abbrev pub with_piece : List ℕ → List ℕ → List ℕ
 with_piece line piece = if length line == 0 then piece else line ++ 0x20 ∷ piece
 
--- the pieces, as they are shown, with a space between them
+-- the pieces, as they are shown, behind this line, each with a space before it unless the line is empty by then
 unfoldable pub joined : Charset → List ℕ → List (List ℕ) → List ℕ
 joined set line found = fold with_piece line (map (text set) found)
 
--- the line that is shown of a record: nothing, where the octets are none
+-- the line that is shown of a record: nothing, where the octets are no record
 unfoldable pub brief : Format → List ℕ → List ℕ
 brief format octets = if is_record octets then joined (charset format octets) [] (pieces format octets) else []

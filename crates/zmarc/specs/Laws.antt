@@ -1,8 +1,8 @@
 -- Laws of the definitions, in the terms of the standards.
-use Rattle.std.specs.Prelude.{◌≡◌, ◌≢◌, ℕ, ◌+◌, ◌≤◌, ◌<◌, false, length, List, [], ◌∷◌, ◌++◌, All}
+use Rattle.std.specs.Prelude.{◌≡◌, ◌≢◌, ℕ, ◌+◌, ◌^◌, ◌≤◌, ◌<◌, true, false, Some, length, List, [], ◌∷◌, ◌++◌, All, find}
 use Rattle.std.specs.Char.{IsScalar}
 use Rattle.std.specs.List.{flat_map}
-use Rattle.std.specs.Str.{encode_utf8_all}
+use Rattle.std.specs.Str.{encode_utf8_all, byte}
 use Rattle.unicode_normalization.specs.Forms.{nfc}
 use Rattle.zmarc.specs.declared.charset.Charset.{Charset}
 use Rattle.zmarc.specs.declared.charset.Charset.TheVariants.{Utf8}
@@ -12,9 +12,11 @@ use Rattle.zmarc.specs.Shown.{IsSafe}
 use Rattle.zmarc.specs.Charsets.{text}
 use Rattle.zmarc.specs.Marc8.{meaning, marc8}
 use Rattle.zmarc.specs.declared.format.Format.{Format}
-use Rattle.zmarc.specs.Briefs.{brief}
-use Rattle.zmarc.specs.Records.{is_record, fields, entry_count, lost_count}
+use Rattle.zmarc.specs.Briefs.{title_tag, brief}
+use Rattle.zmarc.specs.Records.{is_record, Field, fields, has_tag, entry_count, lost_count}
 use Rattle.zmarc.specs.Subfields.{Subfield, subfields}
+use Rattle.zmarc.specs.Written.{record_of, AreWritable, TellsLength}
+use Rattle.zmarc.specs.Years.{year}
 
 -- ---- what is shown
 
@@ -60,3 +62,35 @@ CountLaw = (octets : List ℕ) → length (fields octets) + lost_count octets �
 -- of octets that are no record nothing is shown
 abbrev pub NothingLaw : Type 0
 NothingLaw = (format : Format) (octets : List ℕ) → is_record octets ≡ false → brief format octets ≡ []
+
+-- the octets of a field that begins with the title: indicators, the subfield $a, and other subfields
+abbrev pub title_octets : List ℕ → List ℕ → List Subfield → List ℕ
+title_octets indicators title made =
+    indicators ++ flat_map subfield_octets (record { code = byte "a"; octets = title } ∷ made)
+
+-- the line of a record begins with its title: with what stands in $a, where the first field of the title begins with
+-- that, and it is printable ASCII and not empty
+abbrev pub TitleLaw : Type 0
+TitleLaw = (format : Format) (status coded : List ℕ) (fs : List Field) (f : Field) (indicators title : List ℕ)
+    → (made : List Subfield) → AreWritable status coded fs → find (has_tag (title_tag format)) fs ≡ Some f
+    → f.octets ≡ title_octets indicators title made → NoDelimiter indicators
+    → All (λ s. NoDelimiter (s.code ∷ s.octets)) made → All IsPrintable title → title ≢ []
+    → (rest : List ℕ) × (brief format (record_of status coded fs) ≡ title ++ rest)
+
+-- whatever octets stand behind a record
+pub record BehindLaws : Type 0 where
+  -- it is a record, where they and it are few enough for one
+  pub still_record : (status coded : List ℕ) (fs : List Field) (more : List ℕ) → AreWritable status coded fs
+      → length (record_of status coded fs ++ more) < 2 ^ 32 → is_record (record_of status coded fs ++ more) ≡ true
+  -- its fields stay the same
+  pub same_fields : (status coded : List ℕ) (fs : List Field) (more : List ℕ) → AreWritable status coded fs
+      → fields (record_of status coded fs ++ more) ≡ fs
+  -- so does its year
+  pub same_year : (format : Format) (status coded : List ℕ) (fs : List Field) (more : List ℕ)
+      → AreWritable status coded fs
+      → year format (record_of status coded fs ++ more) ≡ year format (record_of status coded fs)
+  -- so does its line, where its leader tells its length, and they and it are few enough for a record
+  pub same_line : (format : Format) (status coded : List ℕ) (fs : List Field) (more : List ℕ)
+      → AreWritable status coded fs → TellsLength (record_of status coded fs)
+      → length (record_of status coded fs ++ more) < 2 ^ 32
+      → brief format (record_of status coded fs ++ more) ≡ brief format (record_of status coded fs)

@@ -1,3 +1,4 @@
+pub mod Ansel
 pub mod Briefs
 pub mod Charsets
 pub mod Isbns

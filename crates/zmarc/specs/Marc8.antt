@@ -1,7 +1,6 @@
 -- The characters of octets of MARC-8, as far as ASCII and ANSEL go.
-use Rattle.std.specs.Prelude.{ℕ, ◌-◌, Bool, not, ◌&&◌, ◌||◌, ◌==◌, nat_lt, nat_le, if◌then◌else◌, List, [], ◌∷◌, ◌++◌}
-use Rattle.std.specs.Prelude.{slice_index}
-use Rattle.zmarc.specs.declared.marc8.TheConstants.{ANSEL}
+use Rattle.std.specs.Prelude.{ℕ, Bool, not, ◌&&◌, ◌||◌, ◌==◌, nat_lt, nat_le, if◌then◌else◌, List, [], ◌∷◌, ◌++◌}
+use Rattle.zmarc.specs.Ansel.{ansel_character}
 use Rattle.zmarc.specs.declared.marc8.Mode.{Mode}
 use Rattle.zmarc.specs.declared.marc8.Mode.TheVariants.{Plain, Escape, Bracket, Foreign}
 use Rattle.zmarc.specs.declared.marc8.Step.{Step}
@@ -17,7 +16,7 @@ ascii x = if nat_lt x 0x80 then x else (if x == 0x88 then 0x98 else (if x == 0x8
 
 -- the character of an octet; U+FFFD where the octet means none
 abbrev pub ansel : ℕ → ℕ
-ansel x = if nat_lt x 0xA0 then ascii x else slice_index ANSEL (x - 0xA0)
+ansel x = if nat_lt x 0xA0 then ascii x else ansel_character x
 
 -- the octet means a mark that is combined with the letter behind it
 abbrev pub is_mark : ℕ → Bool

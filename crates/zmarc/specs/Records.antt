@@ -36,6 +36,19 @@ other_octets octets = digit_or 0 (slice_index octets 22)
 abbrev pub entry_len : List ℕ → ℕ
 entry_len octets = 3 + length_digits octets + start_digits octets + other_octets octets
 
+-- ---- the octets of the record itself
+
+-- as many octets from the front on as the number says; all of them where there is no number, where it is less than a
+-- leader has, and where it is more than there are
+abbrev pub front_of : List ℕ → Option ℕ → List ℕ
+front_of octets None = octets
+front_of octets (Some len) = if nat_le 24 len && nat_le len (length octets) then take len octets else octets
+
+-- the octets of the record itself, without what stands behind it: as many as the leader tells (positions 0 to 4), where
+-- it is whole and tells a number of octets that can be; else all of them
+unfoldable pub own_octets : List ℕ → List ℕ
+own_octets octets = if nat_lt (length octets) 24 then octets else front_of octets (number (take 5 octets))
+
 -- ---- the directory and what it tells of
 
 -- the field terminator, and the record terminator
@@ -130,9 +143,9 @@ told_total octets =
     sum_by (λ e. told_len (octets_of (contents octets) (length_digits octets) (start_digits octets) e))
     (entries (entry_len octets) (entry_count octets) (directory octets))
 
--- the octets are a record: the leader tells where the data begin, and the entries do not tell of the same octets over
--- and over: together of at most 16 times as many as there are, so that reading a record takes time in proportion to
--- its length
+-- the octets are a record: they are fewer than 2^32, the leader tells where the data begin, and the entries do not tell
+-- of the same octets over and over: together of at most 16 times as many as there are, so that reading a record takes
+-- time in proportion to its length
 unfoldable pub is_record : List ℕ → Bool
 is_record octets =
     nat_lt (length octets) (2 ^ 32) && is_some (base_address octets) && nat_le (told_total octets) (16 * length octets)

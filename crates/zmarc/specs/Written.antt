@@ -1,6 +1,6 @@
 -- Records as ISO 2709 (ANSI/NISO Z39.2) has them written in MARC 21 and UNIMARC.
 use Rattle.std.specs.Prelude.{◌≡◌, ℕ, zero, suc, ◌+◌, ◌*◌, ◌/◌, ◌%◌, ◌^◌, ◌<◌, false, List, [], ◌∷◌, ◌++◌, length}
-use Rattle.std.specs.Prelude.{All, codes}
+use Rattle.std.specs.Prelude.{All, take, codes}
 use Rattle.std.specs.List.{flat_map}
 use Rattle.zmarc.specs.Records.{Field, fields, is_end}
 
@@ -55,6 +55,11 @@ pub record AreWritable (status coded : List ℕ) (fs : List Field) : Type 0 wher
   pub each : All IsWritable fs
   pub few : base_of fs < 10 ^ 5
   pub near : length (flat_map ended fs) < 10 ^ 5
+
+-- the leader tells how many octets the record has, in its positions 0 to 4
+pub record TellsLength (octets : List ℕ) : Type 0 where
+  pub short : length octets < 10 ^ 5
+  pub told : take 5 octets ≡ digits 5 (length octets)
 
 -- the fields of a record are those that it was written of
 abbrev pub RecordLaw : Type 0

@@ -10,11 +10,11 @@ ghost use Rattle.zmarc.specs.Briefs.{names_utf8, declares_utf8, charset, with_pi
 use crate::charset::{Charset, is_utf8_beyond_ascii, put_text};
 use crate::format::Format;
 use crate::pieces::gather_pieces;
-use crate::records::is_record;
+use crate::records::{cut_own_octets, is_record};
 use crate::subfields::subfield_in;
 use std::alloc::{AllocError, Global};
 
-/// Whether positions 26 and 27 of the coded field of UNIMARC name UTF-8.
+/// Whether positions 26 and 27 of the coded data of UNIMARC are `50`, UTF-8; not where there are no data.
 fn names_utf8(coded: Option<&[u8]>) -> bool
     ensures { result ≡ names_utf8 (option_copied coded.entry) }
 {
@@ -24,7 +24,8 @@ fn names_utf8(coded: Option<&[u8]>) -> bool
     }
 }
 
-/// Whether the record says that it is in UTF-8.
+/// Whether the record says that it is in UTF-8: in MARC 21 by an `a` at position 9 of the leader, in UNIMARC by the
+/// data of 100 `$a`.
 fn declares_utf8(octets: &[u8], format: Format) -> bool
     ensures { result ≡ declares_utf8 format octets.now }
 {
@@ -34,11 +35,12 @@ fn declares_utf8(octets: &[u8], format: Format) -> bool
     }
 }
 
-/// The character set of a record: UTF-8 also where it does not say so, and is UTF-8 with octets beyond ASCII.
+/// The character set of a record: UTF-8 where it says so, and where its own octets (`cut_own_octets`) are UTF-8 as a
+/// whole, with octets beyond ASCII; else that of its format.
 fn choose_charset(octets: &[u8], format: Format) -> Charset
     ensures { result ≡ charset format octets.now }
 {
-    if declares_utf8(octets, format) || is_utf8_beyond_ascii(octets) {
+    if declares_utf8(octets, format) || is_utf8_beyond_ascii(cut_own_octets(octets)) {
         Charset::Utf8
     } else {
         format.other_charset()
@@ -60,7 +62,7 @@ fn put_piece(
     put_text(alloc, charset, piece, line)
 }
 
-/// Appends pieces as they are shown.
+/// Appends pieces as they are shown, each with a space before it where the line has anything by then.
 fn put_pieces(
     alloc: Global,
     charset: Charset,
@@ -78,16 +80,33 @@ fn put_pieces(
 
 /// Appends the line that is shown of a record to `out`, and tells whether the octets are a record.
 ///
-/// The line has the title and who made it, and the ISBN, in this order, as far as the record has them, with one space
-/// between them; the year is asked for by `find_year`. It ends with no line feed. It is UTF-8 and safe to print on a
-/// terminal, whatever the octets are: it has no control character (C0, delete, C1), no separator of lines or paragraphs
-/// (U+2028, U+2029), no character that turns the direction of text (U+061C, U+200E, U+200F, U+202A to U+202E, U+2066 to
-/// U+2069), and neither U+200B nor U+FEFF. Each of these is shown as U+FFFD; but a tab, a line feed and a carriage
-/// return are shown as a space, and U+0098 and U+009C, the marks round what is left out in sorting, are not shown at
-/// all. Letters and their marks are composed as in NFC.
+/// The line has these pieces, in this order, as far as the record has them. Each stands behind a space, unless the line
+/// is empty so far. The year is asked for by `find_year`.
 ///
-/// `octets` is one record of ISO 2709, of any length; more octets behind the record do no harm. `format` says which
-/// tags and codes the record has.
+/// - The title: of the first field 245 (UNIMARC: 200) the subfields `$a`, `$b`, `$n`, `$p` and `$c` (UNIMARC: `$a`,
+///   `$e`, `$f` and `$g`) that are not empty, in the order of the field. In UNIMARC `:`, `/` or `;` stands before `$e`,
+///   `$f` or `$g`.
+/// - Where that field is missing, or its first `$c` (UNIMARC: `$f`) is missing or empty: a slash and the main heading,
+///   which is the first of 100, 110 and 111 `$a` (UNIMARC: 700 and 710 `$a`) that `subfield_in` finds.
+/// - `ISBN` and a number: what stands before the first space of a `$a` of 020 (UNIMARC: 010), if a digit is in it. Of
+///   each such field the first `$a` is looked at, and the first of them that has a number gives it.
+///
+/// The octets are read as UTF-8 where the record says that it is in UTF-8 (MARC 21: `a` at position 9 of the leader;
+/// UNIMARC: `50` at positions 26 and 27 of 100 `$a`), and where the octets of the record are UTF-8 as a whole, with
+/// octets above 7F. Else they are read as MARC-8 (UNIMARC: ASCII; see `Charset`). The octets of the record are as many
+/// as positions 0 to 4 of its leader tell; where these are no five digits, or tell less than 24 or more than
+/// `octets` has, they are all of `octets`.
+///
+/// The line is UTF-8 and safe to print on a terminal, whatever the octets are: it has no control character (C0, delete,
+/// C1), and so no line feed, no separator of lines or paragraphs (U+2028, U+2029), no character that turns the
+/// direction of text (U+061C, U+200E, U+200F, U+202A to U+202E, U+2066 to U+2069), and neither U+200B nor U+FEFF. Each
+/// of these is shown as U+FFFD; but a tab, a line feed and a carriage return are shown as a space, and U+0098 and
+/// U+009C, the marks round what is left out in sorting, are not shown at all. Before that the characters of each piece
+/// are composed as in NFC.
+///
+/// `octets` is one record of ISO 2709, and `format` says which tags and codes it has. What stands behind a record
+/// changes nothing of its line where the record is written as ISO 2709 has it, its leader tells its length, and all
+/// octets are fewer than 2^32 (`laws::behind_laws`).
 ///
 /// Returns `false`, and appends nothing, where the octets are no record (`is_record`). Returns `true` and
 /// may append nothing where the record has nothing to be shown. It fails only if no memory is found; then `out` is as

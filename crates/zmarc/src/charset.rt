@@ -1,5 +1,5 @@
 //! The characters that octets mean, and the text that is shown of them.
-ghost use Rattle.std.specs.Prelude.{◌≡◌, ◌++◌, map, OnOk, IfOk, string_bytes};
+ghost use Rattle.std.specs.Prelude.{◌≡◌, ◌++◌, map, OnOk, OnErr, IfOk, string_bytes};
 ghost use Rattle.std.specs.Str.{chars, is_utf8};
 ghost use Rattle.std.specs.Str.Lossy.{utf8_lossy};
 ghost use Rattle.zmarc.specs.Marc8.{ascii};
@@ -16,9 +16,9 @@ use unicode_normalization::slice::extend_nfc;
 pub enum Charset {
     /// UTF-8.
     Utf8,
-    /// MARC-8 as far as ASCII and ANSEL go.
+    /// MARC-8 as far as ASCII and ANSEL go, with 88 and 89, the marks round what is left out in sorting.
     Marc8,
-    /// ASCII alone.
+    /// ASCII, with 88 and 89, the marks round what is left out in sorting.
     Ascii,
 }
 
@@ -43,7 +43,7 @@ pub(crate) fn is_utf8_beyond_ascii(octets: &[u8]) -> bool
     is_beyond_ascii(octets) && is_utf8(octets)
 }
 
-/// Reads the characters of octets of ASCII.
+/// Reads the characters of octets of ASCII, each by itself.
 fn read_ascii(alloc: Global, octets: &[u8]) -> Result<Vec<char>, AllocError>
     ensures { IfOk result (λ read. read.items ≡ map ascii octets.now) }
 {
@@ -54,7 +54,7 @@ fn read_ascii(alloc: Global, octets: &[u8]) -> Result<Vec<char>, AllocError>
     Ok(read)
 }
 
-/// Reads the characters of octets of UTF-8.
+/// Reads the characters of octets of UTF-8, with U+FFFD for what is none.
 fn read_utf8(alloc: Global, octets: &[u8]) -> Result<Vec<char>, AllocError>
     ensures { IfOk result (λ read. read.items ≡ chars (utf8_lossy octets.now)) }
 {
@@ -77,9 +77,16 @@ fn read_characters(alloc: Global, charset: Charset, octets: &[u8]) -> Result<Vec
     }
 }
 
-/// Appends the text that is shown of octets: their characters in NFC, of which each that is not safe for a terminal is
-/// shown as U+FFFD or as a space (`put_brief` says which). Octets that mean nothing in the set are shown as U+FFFD. It
-/// fails only if no memory is found.
+/// Appends the text that is shown of octets: their characters in NFC, of which those that are not safe for a terminal
+/// are shown as U+FFFD or as a space, or not at all (`put_brief` says which).
+///
+/// An octet that means nothing in ASCII or ANSEL is shown as U+FFFD, and so is what is no UTF-8 (as `from_utf8_lossy`
+/// has it). In MARC-8 a mark goes behind the letter that it stands before. EC and FB, the second halves of marks that
+/// span two letters, are not shown. An escape sequence to a set other than ASCII and ANSEL is shown as one U+FFFD, and
+/// what stands in that set is not shown; ESC ( B and ESC s lead back, and are not shown. U+FFFD stands before marks at
+/// the end, which have no letter.
+///
+/// It fails only if no memory is found; then `line` is as it was.
 #[tactic(auto, unfolding(crate::specs::Charsets::text), using(crate::proofs::SafeTheory::text_is_safe))]
 pub fn put_text(
     alloc: Global,
@@ -88,6 +95,7 @@ pub fn put_text(
     line: &mut String,
 ) -> Result<(), AllocError>
     ensures ok { OnOk result (string_bytes line.new ≡ string_bytes line.old ++ text charset octets.now) }
+    ensures err { OnErr result (string_bytes line.new ≡ string_bytes line.old) }
     ensures safe { IsSafeText (text charset octets.now) }
 {
     let read = read_characters(alloc, charset, octets)?;

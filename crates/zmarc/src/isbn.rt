@@ -12,7 +12,7 @@ use crate::records::gather_tagged_fields;
 use crate::subfields::find_subfield;
 use std::alloc::{AllocError, Global};
 
-/// What stands before the first space.
+/// What stands before the first space; all octets where there is none.
 fn cut_before_space(octets: &[u8]) -> &[u8]
     ensures { result.now ≡ before_first (λ x. x == 0x20) octets.now }
 {
@@ -60,7 +60,8 @@ fn find_isbn_of_fields<'a>(fields: &[&'a [u8]]) -> Option<&'a [u8]>
     None
 }
 
-/// The number of the first field, of all that have the tag, that begins with one.
+/// The number of the first field, of all that have the tag, whose first `$a` begins with one: with a word that has a
+/// digit.
 #[tactic(auto, unfolding(crate::specs::Isbns::isbn_number))]
 fn find_isbn(alloc: Global, octets: &[u8], format: Format) -> Result<Option<&[u8]>, AllocError>
     ensures { IfOk result (λ found. option_copied found ≡ isbn_number format octets.now) }
@@ -69,7 +70,7 @@ fn find_isbn(alloc: Global, octets: &[u8], format: Format) -> Result<Option<&[u8
     Ok(find_isbn_of_fields(&fields))
 }
 
-/// Takes the ISBN and the word for it.
+/// Takes the word `ISBN` and the number, where the record has one.
 #[tactic(auto, unfolding(crate::specs::Isbns::isbn))]
 pub(crate) fn take_isbn<'a>(
     alloc: Global,

@@ -6,9 +6,9 @@ use crate::shown::REPLACEMENT;
 use std::alloc::{AllocError, Global};
 
 /// ANSEL (ANSI/NISO Z39.47), as the Library of Congress maps it to Unicode for MARC 21: the character of each octet
-/// from A0 on. Those from E0 on are marks that are combined with the letter behind them. EB and FA are the marks of
-/// Unicode that span two letters; so EC and FB, the second halves of these, are U+FFFD here, and left out. Where an
-/// octet means nothing it is U+FFFD as well.
+/// from A0 on (`ansel_character`). Those from E0 on are marks that are combined with the letter behind them. EB and FA
+/// are the marks of Unicode that span two letters; so EC and FB, the second halves of these, are U+FFFD here, and left
+/// out. Where an octet means nothing it is U+FFFD as well.
 const ANSEL: [char; 96] = [
     '\u{fffd}', '\u{0141}', '\u{00d8}', '\u{0110}', '\u{00de}', '\u{00c6}', '\u{0152}', '\u{02b9}', // A0
     '\u{00b7}', '\u{266d}', '\u{00ae}', '\u{00b1}', '\u{01a0}', '\u{01af}', '\u{02bc}', '\u{fffd}', // A8
@@ -24,7 +24,7 @@ const ANSEL: [char; 96] = [
     '\u{031c}', '\u{032e}', '\u{0360}', '\u{fffd}', '\u{fffd}', '\u{fffd}', '\u{0313}', '\u{fffd}', // F8
 ];
 
-/// The character of an octet of ASCII, or a mark for sorting.
+/// The character of an octet of ASCII, or a mark for sorting; U+FFFD where it is none of these.
 pub(crate) fn map_ascii(octet: u8) -> char
     ensures { result ≡ ascii octet }
 {
@@ -36,7 +36,7 @@ pub(crate) fn map_ascii(octet: u8) -> char
     }
 }
 
-/// The character of an octet of ASCII or ANSEL.
+/// The character of an octet of ASCII or ANSEL, or a mark for sorting; U+FFFD where it is none of these.
 fn map_ansel(octet: u8) -> char
     ensures { result ≡ ansel octet }
 {

@@ -1,4 +1,4 @@
-//! What is shown of a record, in its own octets.
+//! What is shown of a record: its own octets, with marks and words between them.
 ghost use Rattle.std.specs.Prelude.{◌≡◌, ◌++◌, OnOk, IfOk};
 ghost use Rattle.std.specs.List.{flat_map};
 ghost use Rattle.std.specs.Option.{option_copied};
@@ -12,7 +12,8 @@ use crate::records::first_field;
 use crate::subfields::{split_next_part, subfield_in};
 use std::alloc::{AllocError, Global};
 
-/// Takes what is shown of a subfield of the title: nothing where it is empty.
+/// Takes what is shown of a subfield of the title: the mark of ISBD that stands before it, and its data. It takes
+/// nothing where they are empty, and of a subfield that is not shown.
 fn take_part<'a>(
     format: Format,
     code: u8,
@@ -51,7 +52,7 @@ fn take_parts<'a>(
     Ok(())
 }
 
-/// Takes what is shown of the title.
+/// Takes what is shown of the title: of the first field that has its tag.
 #[tactic(auto, unfolding(crate::specs::Briefs::title))]
 fn take_title<'a>(
     octets: &'a [u8],
@@ -66,7 +67,7 @@ fn take_title<'a>(
     }
 }
 
-/// The main heading.
+/// The main heading: the first that the record has of those that its format may have.
 #[tactic(auto, unfolding(crate::specs::Briefs::heading))]
 fn find_heading(octets: &[u8], format: Format) -> Option<&[u8]>
     ensures { option_copied result ≡ heading format octets.now }
@@ -90,7 +91,7 @@ fn find_heading(octets: &[u8], format: Format) -> Option<&[u8]>
     }
 }
 
-/// Takes a slash and the main heading, where the title does not say who made it.
+/// Takes a slash and the main heading, where the record has one, and the title does not say who made it.
 #[tactic(auto, unfolding(crate::specs::Briefs::maker))]
 fn take_maker<'a>(
     octets: &'a [u8],
@@ -109,7 +110,7 @@ fn take_maker<'a>(
     Ok(())
 }
 
-/// What is shown of a record, in its own octets.
+/// What is shown of a record: its title, who made it, and its ISBN.
 #[tactic(auto, unfolding(crate::specs::Briefs::pieces))]
 pub(crate) fn gather_pieces(
     alloc: Global,

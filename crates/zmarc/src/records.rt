@@ -2,7 +2,8 @@
 ghost use Rattle.std.specs.Prelude.{◌≡◌, ◌≤◌, ◌+◌, ◌++◌, length, nat_le, OnOk, IfOk, IfSome};
 ghost use Rattle.std.specs.List.{before_first};
 ghost use Rattle.std.specs.Option.{option_copied, option_to_list};
-ghost use Rattle.zmarc.specs.Records.{base_address, is_record, is_end, length_digits, start_digits, other_octets};
+ghost use Rattle.zmarc.specs.Records.{base_address, own_octets, is_record, is_end};
+ghost use Rattle.zmarc.specs.Records.{length_digits, start_digits, other_octets};
 ghost use Rattle.zmarc.specs.Records.{octets_of, tagged_octets, tagged_fields, first_field, told_len, told_total, lost_count};
 ghost use Rattle.zmarc.specs.References.{behind_each};
 
@@ -20,7 +21,8 @@ const FIELD_END: u8 = 0x1E;
 /// The record terminator.
 const RECORD_END: u8 = 0x1D;
 
-/// The base address of the data, where the leader is whole and tells one.
+/// The base address of the data, where the leader is whole, its positions 12 to 16 are digits, and what they tell is
+/// behind the leader and not behind the octets.
 #[tactic(auto, unfolding(crate::specs::Records::base_address))]
 fn read_base_address(octets: &[u8]) -> Option<usize>
     ensures value { result ≡ base_address octets.now }
@@ -37,7 +39,22 @@ fn read_base_address(octets: &[u8]) -> Option<usize>
     }
 }
 
-/// What stands before the first terminator.
+/// The octets of the record itself, without what stands behind it: as many as positions 0 to 4 of the leader tell. They
+/// are all octets where these positions are no five digits, or tell less than a leader has or more than there are.
+#[tactic(auto, unfolding(crate::specs::Records::own_octets))]
+pub(crate) fn cut_own_octets(octets: &[u8]) -> &[u8]
+    ensures { result.now ≡ own_octets octets.now }
+{
+    if octets.len() < LEADER_LEN {
+        return octets;
+    }
+    match read_number(&octets[..5]) {
+        Some(len) if LEADER_LEN <= len && len <= octets.len() => &octets[..len],
+        _ => octets,
+    }
+}
+
+/// What stands before the first terminator, of a field or a record; all octets where there is none.
 fn cut_before_end(octets: &[u8]) -> &[u8]
     ensures { result.now ≡ before_first is_end octets.now }
 {
@@ -50,7 +67,8 @@ fn cut_before_end(octets: &[u8]) -> &[u8]
     }
 }
 
-/// How the entries of a directory are laid out behind their tags.
+/// How many octets the entries of a directory have behind their tags, for the length and the start of a field and for
+/// other use.
 #[derive(Clone, Copy)]
 struct Layout {
     length_digits: usize,
@@ -58,7 +76,7 @@ struct Layout {
     other_octets: usize,
 }
 
-/// How the leader lays the entries out.
+/// How positions 20 to 22 of the leader lay the entries out; for those that are no digits 4, 5 and 0 stand.
 fn read_entry_layout(octets: &[u8]) -> Layout
     requires { 24 ≤ length octets.now }
     ensures length { result.length_digits ≡ length_digits octets.now }
@@ -73,7 +91,8 @@ fn read_entry_layout(octets: &[u8]) -> Layout
     }
 }
 
-/// The octets that an entry tells of, where it tells of any.
+/// The octets that an entry tells of, up to the first terminator among them; none where its length or its start is no
+/// number, or together they lead beyond the contents.
 #[tactic(auto, unfolding(crate::specs::Records::octets_of))]
 fn read_entry<'a>(contents: &'a [u8], layout: Layout, entry: &[u8]) -> Option<&'a [u8]>
     requires whole { 3 + layout.length_digits + layout.start_digits ≤ length entry.now }
@@ -128,7 +147,7 @@ fn take_tagged<'a>(
     Ok(())
 }
 
-/// How many octets an entry tells of.
+/// How many octets an entry tells of; 0 where it tells of none.
 fn count_told(contents: &[u8], layout: Layout, entry: &[u8]) -> usize
     requires whole { 3 + layout.length_digits + layout.start_digits ≤ length entry.now }
     requires short { (layout.length_digits ≤ 9) × (layout.start_digits ≤ 9) }
@@ -140,7 +159,7 @@ fn count_told(contents: &[u8], layout: Layout, entry: &[u8]) -> usize
     }
 }
 
-/// Whether the entries tell of at most so many octets together.
+/// Whether the entries tell of at most so many octets together, each counted as often as an entry tells of it.
 #[tactic(auto, unfolding(crate::specs::Records::told_total))]
 fn tell_at_most(octets: &[u8], most: usize) -> bool
     ensures { result ≡ nat_le (told_total octets.now) most }
@@ -167,8 +186,11 @@ fn tell_at_most(octets: &[u8], most: usize) -> bool
 
 /// Tells whether the octets are a record: they have a leader of 24 octets, whose positions 12 to 16 are five digits,
 /// these tell a base address that is at least 24 and at most the number of octets, and the entries of the directory
-/// tell of at most 16 times as many octets as there are. Nothing else of the leader is looked at. What has 2^32 octets
-/// or more is no record.
+/// tell of at most 16 times as many octets as there are, where an octet is counted as often as an entry tells of it.
+/// What has 2^32 octets or more is no record.
+///
+/// Of the leader only these positions are looked at, and positions 20 to 22, which lay out the entries: where one of
+/// them is no digit, 4, 5 or 0 stands for it.
 #[tactic(auto, unfolding(crate::specs::Records::is_record))]
 pub fn is_record(octets: &[u8]) -> bool
     ensures { result ≡ is_record octets.now }
@@ -179,11 +201,13 @@ pub fn is_record(octets: &[u8]) -> bool
 }
 
 /// Finds the octets of the first field that has this tag, in the order of the directory. A tag has three octets; no
-/// field has a tag of another length. The octets end before the field's terminator, and begin with the indicators where
-/// the field has any. They are the record's own: nothing is copied, and nothing makes them safe to print.
+/// field has a tag of another length. The octets end before the first terminator, of a field or a record, that is in
+/// the range that the directory tells, or with that range. They begin with the indicators where the field has any. They
+/// are the record's own: nothing is copied, and nothing makes them safe to print.
 ///
-/// Returns `None` where the octets are no record, and where no field has the tag. An entry of the directory that
-/// tells of no field (`count_lost`) is left out.
+/// Returns `None` where no field has the tag, and where the leader tells no base address, as `is_record` asks for it;
+/// that the octets are no record for another reason is not looked at. An entry of the directory that tells of no field
+/// (`count_lost`) is left out.
 #[tactic(auto, unfolding(crate::specs::Records::first_field), using(crate::proofs::FieldTheory::first_field_none))]
 pub fn first_field<'a>(octets: &'a [u8], tag: &[u8]) -> Option<&'a [u8]>
     ensures { option_copied result ≡ first_field tag.now octets.now }
@@ -203,7 +227,8 @@ pub fn first_field<'a>(octets: &'a [u8], tag: &[u8]) -> Option<&'a [u8]>
     None
 }
 
-/// The octets of each field that has this tag, in the order of the directory.
+/// The octets of each field that has this tag, in the order of the directory; none where the leader tells no base
+/// address.
 #[tactic(auto, unfolding(crate::specs::Records::tagged_fields), using(crate::proofs::FieldTheory::tagged_fields_none))]
 pub(crate) fn gather_tagged_fields<'a>(
     alloc: Global,
@@ -229,7 +254,7 @@ pub(crate) fn gather_tagged_fields<'a>(
 }
 
 /// Counts the entries of the directory that tell of no field: their length or their start is no number, or together
-/// they lead beyond the octets. Of octets that are no record the count is 0.
+/// they lead beyond the octets. The count is 0 where the leader tells no base address, as `is_record` asks for it.
 pub fn count_lost(octets: &[u8]) -> usize
     ensures { result ≡ lost_count octets.now }
 {

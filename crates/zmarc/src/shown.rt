@@ -1,5 +1,5 @@
 //! What is shown of characters: text that is safe for a terminal.
-ghost use Rattle.std.specs.Prelude.{◌≡◌, ◌∷◌, ◌++◌, [], OnOk, string_bytes};
+ghost use Rattle.std.specs.Prelude.{◌≡◌, ℕ, ◌∷◌, ◌++◌, [], take, OnOk, OnErr, string_bytes};
 ghost use Rattle.zmarc.specs.Shown.{is_sort_mark, shown, shown_text};
 
 use std::alloc::AllocError;
@@ -30,7 +30,8 @@ fn is_sort_mark(c: char) -> bool
 /// Appends what is shown of a character.
 #[tactic(auto, using(crate::proofs::ShownTheory::shown_text_one))]
 fn put_char(c: char, line: &mut String) -> Result<(), AllocError>
-    ensures { OnOk result (string_bytes line.new ≡ string_bytes line.old ++ shown_text (c ∷ [])) }
+    ensures ok { OnOk result (string_bytes line.new ≡ string_bytes line.old ++ shown_text (c ∷ [])) }
+    ensures err { OnErr result (string_bytes line.new ≡ string_bytes line.old) }
 {
     if is_sort_mark(c) {
         return Ok(());
@@ -39,12 +40,29 @@ fn put_char(c: char, line: &mut String) -> Result<(), AllocError>
     Ok(())
 }
 
-/// Appends what is shown of characters.
-pub(crate) fn put_chars(cs: &[char], line: &mut String) -> Result<(), AllocError>
-    ensures { OnOk result (string_bytes line.new ≡ string_bytes line.old ++ shown_text cs.now) }
+/// Appends what is shown of characters; where no memory is found, what is shown of so many of them.
+fn append_chars(cs: &[char], line: &mut String) -> Result<(), AllocError>
+    ensures ok { OnOk result (string_bytes line.new ≡ string_bytes line.old ++ shown_text cs.now) }
+    ensures err { OnErr result ((n : ℕ) × (string_bytes line.new
+        ≡ string_bytes line.old ++ shown_text (take n cs.now))) }
 {
     for c in cs {
         put_char(*c, line)?;
     }
     Ok(())
+}
+
+/// Appends what is shown of characters. Where no memory is found, the line is as it was.
+pub(crate) fn put_chars(cs: &[char], line: &mut String) -> Result<(), AllocError>
+    ensures ok { OnOk result (string_bytes line.new ≡ string_bytes line.old ++ shown_text cs.now) }
+    ensures err { OnErr result (string_bytes line.new ≡ string_bytes line.old) }
+{
+    let len = line.len();
+    match append_chars(cs, line) {
+        Ok(()) => Ok(()),
+        Err(error) => {
+            line.truncate(len);
+            Err(error)
+        }
+    }
 }

@@ -8,7 +8,8 @@ use crate::records::first_field;
 /// What stands before the code of a subfield.
 const DELIMITER: u8 = 0x1F;
 
-/// What stands behind the first delimiter, up to the next, and what stands from there on.
+/// What stands behind the first delimiter, up to the next, and what stands from that next one on; nothing where there
+/// is no delimiter.
 pub(crate) fn split_next_part(field: &[u8]) -> Option<(&[u8], &[u8])>
     ensures { MatchOption result (parts field.now ≡ [])
         (λ r. (parts field.now ≡ r.0.now ∷ parts r.1.now) × (length r.1.now < length field.now)) }

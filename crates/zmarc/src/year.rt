@@ -11,7 +11,7 @@ use crate::records::{first_field, gather_tagged_fields};
 use crate::subfields::{find_subfield, subfield_in};
 use std::alloc::{AllocError, Global};
 
-/// The first four octets, if they are digits.
+/// The first four octets, if there are as many and they are digits.
 #[tactic(auto, unfolding(crate::specs::Years::four_digits))]
 fn cut_four_digits(octets: &[u8]) -> Option<&[u8]>
     ensures { option_copied result ≡ four_digits octets.now }
@@ -72,7 +72,7 @@ fn find_year_in<'a>(
     Ok(find_year_of_fields(code, &fields))
 }
 
-/// Four digits from a position on.
+/// The four octets from a position on, if there are as many and they are digits.
 fn cut_digits_at(octets: &[u8], at: usize) -> Option<&[u8]>
     ensures { option_copied result ≡ four_digits (drop at octets.now) }
 {
@@ -83,7 +83,8 @@ fn cut_digits_at(octets: &[u8], at: usize) -> Option<&[u8]>
     }
 }
 
-/// The first date of the coded field.
+/// The first date of the coded field, if it is four digits (MARC 21: 008, positions 7 to 10; UNIMARC: 100 `$a`,
+/// positions 9 to 12).
 fn find_coded_year(octets: &[u8], format: Format) -> Option<&[u8]>
     ensures { option_copied result ≡ coded_year format octets.now }
 {
@@ -99,11 +100,14 @@ fn find_coded_year(octets: &[u8], format: Format) -> Option<&[u8]>
     }
 }
 
-/// The year of a record, in four digits: the first four that stand side by side where the record tells of its
-/// publication (MARC 21: 264 $c, 260 $c, 260 $g; UNIMARC: 214 $d, 210 $d), else the first date of the coded field (008;
-/// 100 $a). Returns `None` where the record has neither, and fails only if no memory is found.
+/// Finds the year of a record, in four digits: the first four that stand side by side where the record tells of its
+/// publication (MARC 21: 264 `$c`, 260 `$c`, 260 `$g`; UNIMARC: 214 `$d`, 210 `$d`, in this order), else the first date
+/// of the coded field, if it is four digits (MARC 21: 008, positions 7 to 10; UNIMARC: 100 `$a`, positions 9 to 12). Of
+/// each field that has such a tag the first such subfield is looked at, and the first of them that has four digits side
+/// by side gives the year. Returns `None` where the record has neither, and fails only if no memory is found.
 ///
-/// Ask it of a record alone (`is_record`): of other octets the time it takes may grow with the square of their number.
+/// Ask it of a record alone (`is_record`), which is not looked at here: of other octets the time it takes may grow with
+/// the square of their number.
 #[tactic(auto, unfolding(crate::specs::Years::year))]
 pub fn find_year(alloc: Global, octets: &[u8], format: Format) -> Result<Option<&[u8]>, AllocError>
     ensures { IfOk result (λ found. option_copied found ≡ year format octets.now) }

@@ -1,13 +1,13 @@
-use Rattle.std.proofs.Common.{sym}
-use Rattle.zmarc.proofs.Steps.{onto, all_written}
-use Rattle.zmarc.proofs.ShownTheory.{shown_next, shown_end}
+use Rattle.std.proofs.Common.{rules, ◌∙◌}
+use Rattle.zmarc.proofs.ShownTheory.{may_cut, cut_back}
 use Rattle.zmarc.proofs.shown.put_chars.Goals as goal
 
-pub loop-c-preserved : goal.loop-c-preserved
-loop-c-preserved c =
-    onto _ _ _ _ _ _ c.in_ok-put_char.ensures
-    (shown_next c.args.cs.now c.loop-c.c-index c.c-item.result c.loop-c-test.true (sym c.c-item.is)) c.loop-c.invariant
+pub truncate-requires : goal.truncate-requires
+truncate-requires c =
+    let e = c.in-Err.ensures.err in
+    let at = may_cut _ _ _ c.len-len.result e.1 (c.len-len.ensures ∙ search rules) in λ _. (at.0, λ _. at.1)
 
-pub returns : goal.returns
-returns c =
-    all_written _ _ _ (shown_end c.args.cs.now c.loop-c.c-index c.loop-c-test.false) c.loop-c.invariant
+pub returns-in-Err-clause-err : goal.returns-in-Err-clause-err
+returns-in-Err-clause-err c =
+    let e = c.in-Err.ensures.err in
+    c.truncate.ensures.bytes ∙ cut_back _ _ _ c.len-len.result e.1 (c.len-len.ensures ∙ search rules)
