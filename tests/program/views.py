@@ -203,6 +203,18 @@ café �evil�[31m: 1 found, 1 shown
 """,
 )
 
+# Names of hearts that U+FE0F makes two columns wide each, and one column by themselves: too wide, and of 24 columns
+
+HEART = "\u2764\ufe0f"
+JOINED = (
+    [HEART * 15, HEART * 12],
+    [seen(target, 1, XML, b"<r/>") for target in range(2)],
+    f"""\
+  1  {HEART * 11}…         XML, 4 octets
+  1  {HEART * 12}        XML, 4 octets
+""",
+)
+
 # Counts, failures and diagnostics
 
 ANSWERS = (
@@ -297,7 +309,7 @@ b: 15 found, 3 shown
 """,
 )
 
-ALL = {"letters": LETTERS, "damaged": DAMAGED, "names": NAMES, "answers": ANSWERS, "syntaxes": SYNTAXES}
+ALL = {"letters": LETTERS, "damaged": DAMAGED, "names": NAMES, "joined": JOINED, "answers": ANSWERS, "syntaxes": SYNTAXES}
 
 
 def files():

@@ -1,2 +1,6 @@
-pub mod PlainLines
-pub mod PlainTokens
+mod Keys
+mod Numerals
+mod Objects
+mod PlainLines
+mod PlainTokens
+mod Utf8Texts

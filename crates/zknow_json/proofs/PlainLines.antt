@@ -3,12 +3,14 @@ use Rattle.std.proofs.Common.{ℕ, ℤ, pos, Bool, true, false, cond, Option, So
 use Rattle.std.specs.Prelude.{◌==◌, codes, slice_get}
 use Rattle.std.specs.List.{flat_map}
 use Rattle.std.specs.Ordering.{int_eq}
+use Rattle.std.specs.Str.{IsUtf8}
 use Rattle.std.proofs.lemmas.List.{append-nil}
 use Rattle.std.proofs.lemmas.Grind.{flat_map-append}
 use Rattle.std.proofs.lemmas.List.Elements.{All-nil, All-cons, All-append}
 use Rattle.json.specs.Token.{Token}
 use Rattle.json.specs.Json.{Members}
 use Rattle.json.specs.Print.{print}
+use Rattle.json.proofs.Printed.Utf8.{IsUtf8-are_ascii}
 use Rattle.zber.specs.Dotted.{dotted}
 use Rattle.zapdu.specs.declared.productions.diagnostic.DiagRec.{DiagRec}
 use Rattle.zapdu.specs.declared.productions.diagnostic.DiagRec.TheVariants.{Default, Ext}
@@ -26,66 +28,109 @@ use Rattle.zknow.specs.Known.{counts_at, records_at, is_failed_at, diags_at}
 use Rattle.zknow.specs.List.Listing.{ascending, block_key_of, row_key_of}
 use Rattle.zknow.specs.Tables.Keys.{set_cmp, row_cmp}
 use Rattle.std.specs.List.{filter_map}
-use Rattle.zknow_json.specs.Laws.{object_text, HasNoControl, AreJsonLines}
+use Rattle.zknow_json.specs.Laws.{object_text, HasNoControl, IsJsonObject, AreJsonLines}
 use Rattle.zknow_json.specs.Lines.{json_lines}
 use Rattle.zknow_json.specs.Members.{line}
 use Rattle.zknow_json.specs.Records.{syntax_member, database_member, contents_member, body_kind, body_members, record_object, row_head, record_line, conflict_line, records_line, row_line}
 use Rattle.zknow_json.specs.Sets.{catalogue_member, head, count_line, failure_line, condition_members, default_members, diag_members, place_member, diag_line, set_lines}
-use Rattle.zknow_json.proofs.PlainTokens.{AreMembers, AreItems, IsObject, print_plain, no_items_plain, more_items, nothing, both, either, text_plain, natural_plain, integer_plain, octets_plain, received_plain, object_plain, array_plain}
+use Rattle.zknow_json.proofs.Objects.{AreMembers, AreItems, IsObject, no_items_plain, more_items, nothing, both, among, unless, text_plain, natural_plain, integer_plain, octets_plain, received_plain, object_plain, array_plain}
+use Rattle.zknow_json.proofs.PlainTokens.{print_plain, print_utf8}
+use Rattle.zknow_json.proofs.Utf8Texts.{dotted_utf8}
 
 -- ---- members
 
-catalogue_plain : (target : ℕ) (name : Option (List ℕ)) → AreMembers (catalogue_member target name)
-catalogue_plain target None = natural_plain (codes "catalogueNumber") target
-catalogue_plain target (Some name) = received_plain (codes "catalogue") (codes "catalogueOctets") name
+abbrev Names : Type 0
+Names = List (List ℕ)
 
-head_plain : (kind : List ℕ) (names : List (List ℕ)) (target set : ℕ) → AreMembers (head kind names target set)
+abbrev catalogue_names : Names
+catalogue_names = codes "catalogueNumber" ∷ codes "catalogue" ∷ codes "catalogueOctets" ∷ []
+
+catalogue_plain : (target : ℕ) (name : Option (List ℕ)) → AreMembers catalogue_names (catalogue_member target name)
+catalogue_plain target None = among catalogue_names refl (natural_plain (codes "catalogueNumber") target refl)
+catalogue_plain target (Some name) =
+    among catalogue_names refl (received_plain (codes "catalogue") (codes "catalogueOctets") name refl refl)
+
+abbrev head_names : Names
+head_names = codes "type" ∷ catalogue_names ++ codes "set" ∷ []
+
+head_plain : (kind : List ℕ) (names : List (List ℕ)) (target set : ℕ) → IsUtf8 kind
+    → AreMembers head_names (head kind names target set)
 unfolding head
-head_plain kind names target set =
-    both (both (text_plain (codes "type") kind) (catalogue_plain target (slice_get names target)))
-    (either (set == 0) nothing (natural_plain (codes "set") set))
+head_plain kind names target set u =
+    both (both (text_plain (codes "type") kind refl u) (catalogue_plain target (slice_get names target)))
+    (unless (set == 0) (natural_plain (codes "set") set refl))
 
-diag_plain : (d : DiagRec) → AreMembers (diag_members d)
+abbrev diag_names : Names
+diag_names =
+    codes "diagnosticSet" ∷ codes "condition" ∷ codes "addinfo" ∷ codes "addinfoOctets" ∷ codes "encoding" ∷ []
+
+diag_plain : (d : DiagRec) → AreMembers diag_names (diag_members d)
 unfolding condition_members default_members
 diag_plain (Default d) =
-    both (both (text_plain (codes "diagnosticSet") (dotted d.diag_set)) (integer_plain (codes "condition") d.condition))
-    (received_plain (codes "addinfo") (codes "addinfoOctets") (info_octets d.info))
-diag_plain (Ext v) = octets_plain (codes "encoding") (encoding diag_rec (Ext v))
+    among diag_names refl
+    (both (both (text_plain (codes "diagnosticSet") (dotted d.diag_set) refl (dotted_utf8 d.diag_set))
+    (integer_plain (codes "condition") d.condition refl))
+    (received_plain (codes "addinfo") (codes "addinfoOctets") (info_octets d.info) refl refl))
+diag_plain (Ext v) =
+    among diag_names refl (octets_plain (codes "encoding") (encoding diag_rec (Ext v)) refl)
 
-place_plain : (place : ℤ) → AreMembers (place_member place)
-place_plain place = either (int_eq place (pos 0)) nothing (integer_plain (codes "from") place)
+place_plain : (place : ℤ) → AreMembers (codes "from" ∷ []) (place_member place)
+place_plain place = unless (int_eq place (pos 0)) (integer_plain (codes "from") place refl)
 
-syntax_plain : (syntax : Option (List ℕ)) → AreMembers (syntax_member syntax)
-syntax_plain None = nothing
-syntax_plain (Some syntax) = text_plain (codes "syntax") (dotted syntax)
+syntax_plain : (syntax : Option (List ℕ)) → AreMembers (codes "syntax" ∷ []) (syntax_member syntax)
+syntax_plain None = among (codes "syntax" ∷ []) refl nothing
+syntax_plain (Some syntax) = text_plain (codes "syntax") (dotted syntax) refl (dotted_utf8 syntax)
 
-database_plain : (name : Option (List ℕ)) → AreMembers (database_member name)
-database_plain None = nothing
-database_plain (Some name) = received_plain (codes "database") (codes "databaseOctets") name
+abbrev database_names : Names
+database_names = codes "database" ∷ codes "databaseOctets" ∷ []
 
-contents_plain : (r : Record) (o : Option (List ℕ × List ℕ)) → AreMembers (contents_member r o)
-contents_plain r None = octets_plain (codes "encoding") (encoding whole_record r)
-contents_plain r (Some p) = octets_plain (codes "octets") p.1
+database_plain : (name : Option (List ℕ)) → AreMembers database_names (database_member name)
+database_plain None = among database_names refl nothing
+database_plain (Some name) = received_plain (codes "database") (codes "databaseOctets") name refl refl
 
-body_plain : (r : Record) (body : RecordBody) → AreMembers (body_members r body)
+abbrev contents_names : Names
+contents_names = codes "encoding" ∷ codes "octets" ∷ []
+
+contents_plain : (r : Record) (o : Option (List ℕ × List ℕ)) → AreMembers contents_names (contents_member r o)
+contents_plain r None =
+    among contents_names refl (octets_plain (codes "encoding") (encoding whole_record r) refl)
+contents_plain r (Some p) = among contents_names refl (octets_plain (codes "octets") p.1 refl)
+
+abbrev body_names : Names
+body_names = codes "syntax" ∷ database_names ++ diag_names ++ codes "octets" ∷ []
+
+body_plain : (r : Record) (body : RecordBody) → AreMembers body_names (body_members r body)
 body_plain r (Retrieval v) =
-    both (both (syntax_plain v.direct) (database_plain r.name))
-    (contents_plain r (octets_alone v.direct v.indirect v.descriptor v.content))
-body_plain r (Surrogate d) = both (database_plain r.name) (diag_plain d)
-body_plain r (Fragment m) = octets_plain (codes "encoding") (encoding whole_record r)
+    among body_names refl
+    (both (both (syntax_plain v.direct) (database_plain r.name))
+    (contents_plain r (octets_alone v.direct v.indirect v.descriptor v.content)))
+body_plain r (Surrogate d) = among body_names refl (both (database_plain r.name) (diag_plain d))
+body_plain r (Fragment m) =
+    among body_names refl (octets_plain (codes "encoding") (encoding whole_record r) refl)
+
+kind_utf8 : (body : RecordBody) → IsUtf8 (body_kind body)
+kind_utf8 (Retrieval v) = IsUtf8-are_ascii (codes "record") refl
+kind_utf8 (Surrogate d) = IsUtf8-are_ascii (codes "diagnostic") refl
+kind_utf8 (Fragment m) = IsUtf8-are_ascii (codes "element") refl
 
 record_plain : (r : Record) → IsObject (record_object r)
 unfolding record_object
-record_plain r = object_plain (both (text_plain (codes "type") (body_kind r.body)) (body_plain r r.body))
+record_plain r =
+    object_plain refl (both (text_plain (codes "type") (body_kind r.body) refl (kind_utf8 r.body))
+    (body_plain r r.body))
 
 records_plain : (records : List Record) → AreItems (flat_map record_object records)
 records_plain [] = no_items_plain
 records_plain (r ∷ records) = more_items (record_plain r) (records_plain records)
 
-row_head_plain : (kind : List ℕ) (names : List (List ℕ)) (k : RowKey) → AreMembers (row_head kind names k)
+abbrev row_names : Names
+row_names = head_names ++ codes "position" ∷ []
+
+row_head_plain : (kind : List ℕ) (names : List (List ℕ)) (k : RowKey) → IsUtf8 kind
+    → AreMembers row_names (row_head kind names k)
 unfolding row_head
-row_head_plain kind names k =
-    both (head_plain kind names k.target k.set) (integer_plain (codes "position") k.position)
+row_head_plain kind names k u =
+    both (head_plain kind names k.target k.set u) (integer_plain (codes "position") k.position refl)
 
 -- ---- lines
 
@@ -96,13 +141,21 @@ abbrev line_of : Members → List ℕ
 line_of o = object_text o ++ codes "\n"
 
 no_lines : AreJsonLines []
-no_lines = record { objects = []; made = refl; no_control = All-nil IsPlainObject }
+no_lines = record { objects = []; made = refl; json = All-nil IsJsonObject; no_control = All-nil IsPlainObject }
+
+one_object : {ts : List Token} → (h : IsObject ts) → IsJsonObject h.members
+one_object {ts} h = record {
+  numbers = h.numbers;
+  unique_keys = h.unique;
+  utf8 = subst (λ (us : List Token). IsUtf8 (print us)) (sym h.same) (print_utf8 ts h.plain);
+}
 
 one_line : {ts : List Token} → IsObject ts → AreJsonLines (line ts)
 unfolding line
 one_line {ts} h = record {
   objects = h.members ∷ [];
   made = append-nil (line_of h.members) ∙ ap line h.same;
+  json = All-cons IsJsonObject h.members [] (one_object h) (All-nil IsJsonObject);
   no_control = All-cons IsPlainObject h.members []
       (subst (λ (us : List Token). HasNoControl (print us)) (sym h.same) (print_plain ts h.plain))
       (All-nil IsPlainObject);
@@ -113,6 +166,7 @@ both_lines {a} {b} h k = record {
   objects = h.objects ++ k.objects;
   made = flat_map-append line_of h.objects k.objects ∙ ap (λ x. x ++ flat_map line_of k.objects) h.made
       ∙ ap (λ x. a ++ x) k.made;
+  json = All-append IsJsonObject h.objects k.objects h.json k.json;
   no_control = All-append IsPlainObject h.objects k.objects h.no_control k.no_control;
 }
 
@@ -129,17 +183,22 @@ all_lines f each (x ∷ xs) = both_lines (each x) (all_lines f each xs)
 count_is_line : (names : List (List ℕ)) (b : SetKey) (n : ℤ) → AreJsonLines (count_line names b n)
 unfolding count_line
 count_is_line names b n =
-    one_line (object_plain (both (head_plain (codes "count") names b.target b.set) (integer_plain (codes "count") n)))
+    one_line (object_plain refl
+    (both (head_plain (codes "count") names b.target b.set (IsUtf8-are_ascii (codes "count") refl))
+    (integer_plain (codes "count") n refl)))
 
 failure_is_line : (names : List (List ℕ)) (b : SetKey) → AreJsonLines (failure_line names b)
 unfolding failure_line
-failure_is_line names b = one_line (object_plain (head_plain (codes "failure") names b.target b.set))
+failure_is_line names b =
+    one_line (object_plain refl
+    (head_plain (codes "failure") names b.target b.set (IsUtf8-are_ascii (codes "failure") refl)))
 
 diag_is_line : (names : List (List ℕ)) (b : SetKey) (x : ℤ × DiagRec) → AreJsonLines (diag_line names b x)
 unfolding diag_line
 diag_is_line names b x =
-    one_line (object_plain (both (both (head_plain (codes "diagnostic") names b.target b.set) (place_plain x.0))
-    (diag_plain x.1)))
+    one_line (object_plain refl
+    (both (both (head_plain (codes "diagnostic") names b.target b.set (IsUtf8-are_ascii (codes "diagnostic") refl))
+    (place_plain x.0)) (diag_plain x.1)))
 
 set_has_lines : (names : List (List ℕ)) (facts : List Fact) (b : SetKey) → AreJsonLines (set_lines names facts b)
 unfolding set_lines
@@ -154,10 +213,12 @@ records_have_lines : (names : List (List ℕ)) (k : RowKey) (records : List Reco
 unfolding record_line conflict_line
 records_have_lines names k [] = no_lines
 records_have_lines names k (r ∷ []) =
-    one_line (object_plain (both (row_head_plain (body_kind r.body) names k) (body_plain r r.body)))
+    one_line (object_plain refl (both (row_head_plain (body_kind r.body) names k (kind_utf8 r.body))
+    (body_plain r r.body)))
 records_have_lines names k (r ∷ q ∷ rest) =
-    one_line (object_plain (both (row_head_plain (codes "conflict") names k)
-    (array_plain (codes "records") (records_plain (r ∷ q ∷ rest)))))
+    one_line (object_plain refl
+    (both (row_head_plain (codes "conflict") names k (IsUtf8-are_ascii (codes "conflict") refl))
+    (array_plain (codes "records") refl (records_plain (r ∷ q ∷ rest)))))
 
 row_has_lines : (names : List (List ℕ)) (facts : List Fact) (k : RowKey) → AreJsonLines (row_line names facts k)
 unfolding row_line

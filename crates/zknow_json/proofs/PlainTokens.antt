@@ -1,23 +1,17 @@
--- The tokens of lines are those of JSON objects. What is printed of tokens has no octet below 20, if their numbers have
--- none.
-use Rattle.std.proofs.Common.{◌≡◌, ℕ, zero, suc, ◌/◌, ◌%◌, ◌<◌, ◌≤◌, Bool, true, false, cond, List, [], ◌∷◌, ◌++◌, leb, ltb, eqb, refl, sym, ap, ◌∙◌, append_assoc, arith, ℤ, pos, negsuc}
+-- What is printed of tokens is UTF-8 and has no octet below 20, if the keys and strings are UTF-8 and the numbers are
+-- numbers.
+use Rattle.std.proofs.Common.{◌≡◌, ℕ, ◌/◌, ◌%◌, ◌<◌, ◌≤◌, Bool, true, false, List, [], ◌∷◌, ◌++◌, leb, ltb, eqb, refl, arith}
 use Rattle.std.specs.Prelude.{⊤, ◌+◌, ◌&&◌, ◌||◌, All}
 use Rattle.std.specs.Char.{digit_char}
-use Rattle.std.specs.Fmt.{digit_glyph, digits_onto, digits, decimal, signed_decimal}
 use Rattle.std.specs.List.{list_all}
-use Rattle.std.specs.Str.{is_utf8}
-use Rattle.std.specs.Str.Lossy.{utf8_lossy}
-use Rattle.std.proofs.lemmas.Bool.{leb-true, ltb-true, ltb-false, eqb-true, lt-ltb, cond_both}
+use Rattle.std.specs.Str.{IsUtf8, IsAscii}
+use Rattle.std.proofs.lemmas.Bool.{leb-true, ltb-true, ltb-false, eqb-true, cond_both}
 use Rattle.std.proofs.lemmas.List.Elements.{All-nil, All-cons, All-head, All-tail, All-append, All-weaker}
 use Rattle.std.proofs.lemmas.List.Sums.{AllPass-from_list_all}
-use Rattle.base64.specs.Engines.{standard}
-use Rattle.base64.specs.GeneralPurpose.{encode_of}
+use Rattle.std.proofs.lemmas.Str.{IsUtf8-nil, IsUtf8-append, IsUtf8-from_ascii}
 use Rattle.json.specs.Token.{Token, begin_object, end_object, begin_array, end_array, key, string, number, boolean, null, bad}
-use Rattle.json.specs.Print.{escape_letter, escape_byte, escape, quoted, token_text, separator, ends, begins, print_from, print}
-use Rattle.json.specs.Json as json
-use Rattle.json.specs.Json.{Members, member, no_members, Items, item, no_items}
-use Rattle.json.specs.Tree.{json_tokens, members_tokens, items_tokens}
-use Rattle.zknow_json.specs.Members.{text_member, natural_member, integer_member, octets_member, octets_unless_utf8, received_member, object, array_member}
+use Rattle.json.specs.Print.{escape_letter, escape_byte, escape, quoted, token_text, separator, ends, begins, print_from, print, IsNumber}
+use Rattle.json.proofs.Printed.Utf8.{IsUtf8-are_ascii, IsUtf8-quoted, IsUtf8-key, IsUtf8-boolean, IsUtf8-separator}
 
 abbrev pub IsPlain : ℕ → Type 0
 IsPlain x = 0x20 ≤ x
@@ -79,39 +73,23 @@ quoted_plain xs =
     one_plain 34 (escape xs ++ 34 ∷ []) (omega arith) (both_plain (escape xs) (34 ∷ []) (escape_plain xs)
     (one_plain 34 [] (omega arith) none_plain))
 
--- ---- numbers
-
-glyph_plain : (n : ℕ) → 0x20 ≤ digit_glyph false (n % 10)
-glyph_plain n =
-    let below : n % 10 < 10 = omega arith in
-    rw (lt-ltb (n % 10) 10 below) (omega arith)
-
-digits_plain : (k n : ℕ) (acc : List ℕ) → All IsPlain acc → All IsPlain (digits_onto k 10 false n acc)
-digits_plain zero n acc h = h
-digits_plain (suc k) n acc h =
-    let more = one_plain (digit_glyph false (n % 10)) acc (glyph_plain n) h in
-    cond_both (eqb (n / 10) 0) _ _ (All IsPlain) (λ _. more)
-    (λ _. digits_plain k (n / 10) (digit_glyph false (n % 10) ∷ acc) more)
-
-decimal_plain : (n : ℕ) → All IsPlain (decimal n)
-unfolding digits
-decimal_plain n = digits_plain 64 n [] none_plain
-
-signed_plain : (z : ℤ) → All IsPlain (signed_decimal z)
-signed_plain (pos n) = decimal_plain n
-signed_plain (negsuc n) = one_plain 45 (decimal (suc n)) (omega arith) (decimal_plain (suc n))
-
 -- ---- tokens
 
--- a number has no octet below 20
+-- a number of JSON, of octets that are neither below 20 nor above 7F
+pub record IsPlainNumber (s : List ℕ) : Type 0 where
+  pub number : IsNumber s
+  pub plain : All IsPlain s
+  pub ascii : IsAscii s
+
+-- keys and strings are UTF-8, and numbers are numbers
 abbrev pub IsPlainToken : Token → Type 0
 IsPlainToken begin_object = ⊤
 IsPlainToken end_object = ⊤
 IsPlainToken begin_array = ⊤
 IsPlainToken end_array = ⊤
-IsPlainToken (key s) = ⊤
-IsPlainToken (string s) = ⊤
-IsPlainToken (number s) = All IsPlain s
+IsPlainToken (key s) = IsUtf8 s
+IsPlainToken (string s) = IsUtf8 s
+IsPlainToken (number s) = IsPlainNumber s
 IsPlainToken (boolean b) = ⊤
 IsPlainToken null = ⊤
 IsPlainToken bad = ⊤
@@ -123,11 +101,23 @@ token_plain begin_array h = letters_plain (91 ∷ []) refl
 token_plain end_array h = letters_plain (93 ∷ []) refl
 token_plain (key s) h = both_plain (quoted s) (58 ∷ []) (quoted_plain s) (letters_plain (58 ∷ []) refl)
 token_plain (string s) h = quoted_plain s
-token_plain (number s) h = h
+token_plain (number s) h = h.plain
 token_plain (boolean true) h = letters_plain (116 ∷ 114 ∷ 117 ∷ 101 ∷ []) refl
 token_plain (boolean false) h = letters_plain (102 ∷ 97 ∷ 108 ∷ 115 ∷ 101 ∷ []) refl
 token_plain null h = letters_plain (110 ∷ 117 ∷ 108 ∷ 108 ∷ []) refl
 token_plain bad h = none_plain
+
+token_utf8 : (t : Token) → IsPlainToken t → IsUtf8 (token_text t)
+token_utf8 begin_object h = IsUtf8-are_ascii (123 ∷ []) refl
+token_utf8 end_object h = IsUtf8-are_ascii (125 ∷ []) refl
+token_utf8 begin_array h = IsUtf8-are_ascii (91 ∷ []) refl
+token_utf8 end_array h = IsUtf8-are_ascii (93 ∷ []) refl
+token_utf8 (key s) h = IsUtf8-key s h
+token_utf8 (string s) h = IsUtf8-quoted s h
+token_utf8 (number s) h = IsUtf8-from_ascii s h.ascii
+token_utf8 (boolean b) h = IsUtf8-boolean b
+token_utf8 null h = IsUtf8-are_ascii (110 ∷ 117 ∷ 108 ∷ 108 ∷ []) refl
+token_utf8 bad h = IsUtf8-nil
 
 separator_plain : (b : Bool) (t : Token) → All IsPlain (separator b t)
 separator_plain b t = cond_both (b && begins t) (44 ∷ []) [] (All IsPlain) (λ _. letters_plain (44 ∷ []) refl)
@@ -144,105 +134,13 @@ from_plain b (t ∷ ts) h =
 pub print_plain : (ts : List Token) → All IsPlainToken ts → All IsPlain (print ts)
 print_plain ts h = from_plain false ts h
 
--- ---- members
+from_utf8 : (b : Bool) (ts : List Token) → All IsPlainToken ts → IsUtf8 (print_from b ts)
+unfolding print_from
+from_utf8 b [] h = IsUtf8-nil
+from_utf8 b (t ∷ ts) h =
+    IsUtf8-append (separator b t) (token_text t ++ print_from (ends t) ts) (IsUtf8-separator b t)
+    (IsUtf8-append (token_text t) (print_from (ends t) ts) (token_utf8 t (All-head IsPlainToken t ts h))
+    (from_utf8 (ends t) ts (All-tail IsPlainToken t ts h)))
 
--- members of an object: those of a tree, before others
-pub record AreMembers (ts : List Token) : Type 0 where
-  pub plain : All IsPlainToken ts
-  pub tree : Members → Members
-  pub same : (rest : Members) → members_tokens (tree rest) ≡ ts ++ members_tokens rest
-
--- items of an array: those of a tree, before others
-pub record AreItems (ts : List Token) : Type 0 where
-  pub plain : All IsPlainToken ts
-  pub tree : Items → Items
-  pub same : (rest : Items) → items_tokens (tree rest) ≡ ts ++ items_tokens rest
-
--- the tokens of an object
-pub record IsObject (ts : List Token) : Type 0 where
-  pub plain : All IsPlainToken ts
-  pub members : Members
-  pub same : json_tokens (json.object members) ≡ ts
-
-none : All IsPlainToken []
-none = All-nil IsPlainToken
-
-first : (t : Token) (ts : List Token) → IsPlainToken t → All IsPlainToken ts → All IsPlainToken (t ∷ ts)
-first t ts h k = All-cons IsPlainToken t ts h k
-
-pub nothing : AreMembers []
-nothing = record { plain = none; tree = λ rest. rest; same = λ rest. refl }
-
-pub both : {xs ys : List Token} → AreMembers xs → AreMembers ys → AreMembers (xs ++ ys)
-both {xs} {ys} h k = record {
-  plain = All-append IsPlainToken xs ys h.plain k.plain;
-  tree = λ rest. h.tree (k.tree rest);
-  same = λ rest. h.same (k.tree rest) ∙ ap (λ ts. xs ++ ts) (k.same rest)
-      ∙ sym (append_assoc xs ys (members_tokens rest));
-}
-
-pub either : (b : Bool) {xs ys : List Token} → AreMembers xs → AreMembers ys → AreMembers (cond b xs ys)
-either true h k = h
-either false h k = k
-
-pub text_plain : (name text : List ℕ) → AreMembers (text_member name text)
-unfolding text_member
-text_plain name text = record {
-  plain = first (key name) (string text ∷ []) tt (first (string text) [] tt none);
-  tree = λ rest. member name (json.string text) rest;
-  same = λ rest. refl;
-}
-
-number_plain : (name text : List ℕ) → All IsPlain text → AreMembers (key name ∷ number text ∷ [])
-number_plain name text h = record {
-  plain = first (key name) (number text ∷ []) tt (first (number text) [] h none);
-  tree = λ rest. member name (json.number text) rest;
-  same = λ rest. refl;
-}
-
-pub natural_plain : (name : List ℕ) (n : ℕ) → AreMembers (natural_member name n)
-unfolding natural_member
-natural_plain name n = number_plain name (decimal n) (decimal_plain n)
-
-pub integer_plain : (name : List ℕ) (n : ℤ) → AreMembers (integer_member name n)
-unfolding integer_member
-integer_plain name n = number_plain name (signed_decimal n) (signed_plain n)
-
-pub octets_plain : (name octets : List ℕ) → AreMembers (octets_member name octets)
-unfolding octets_member
-octets_plain name octets = text_plain name (encode_of standard octets)
-
-pub received_plain : (name octets_name octets : List ℕ) → AreMembers (received_member name octets_name octets)
-unfolding received_member octets_unless_utf8
-received_plain name octets_name octets =
-    both (text_plain name (utf8_lossy octets)) (either (is_utf8 octets) nothing (octets_plain octets_name octets))
-
-pub object_plain : {ms : List Token} → AreMembers ms → IsObject (object ms)
-object_plain {ms} h = record {
-  plain = first begin_object (ms ++ end_object ∷ []) tt
-      (All-append IsPlainToken ms (end_object ∷ []) h.plain (first end_object [] tt none));
-  members = h.tree no_members;
-  same = ap (λ ts. begin_object ∷ ts) (h.same no_members);
-}
-
--- ---- arrays
-
-pub no_items_plain : AreItems []
-no_items_plain = record { plain = none; tree = λ rest. rest; same = λ rest. refl }
-
-pub more_items : {xs ys : List Token} → IsObject xs → AreItems ys → AreItems (xs ++ ys)
-more_items {xs} {ys} h k = record {
-  plain = All-append IsPlainToken xs ys h.plain k.plain;
-  tree = λ rest. item (json.object h.members) (k.tree rest);
-  same = λ rest. ap (λ ts. ts ++ items_tokens (k.tree rest)) h.same ∙ ap (λ ts. xs ++ ts) (k.same rest)
-      ∙ sym (append_assoc xs ys (items_tokens rest));
-}
-
-pub array_plain : (name : List ℕ) {items : List Token} → AreItems items → AreMembers (array_member name items)
-array_plain name {items} h = record {
-  plain = first (key name) (begin_array ∷ items ++ end_array ∷ []) tt
-      (first begin_array (items ++ end_array ∷ []) tt
-      (All-append IsPlainToken items (end_array ∷ []) h.plain (first end_array [] tt none)));
-  tree = λ rest. member name (json.array (h.tree no_items)) rest;
-  same = λ rest. ap (λ ts. key name ∷ begin_array ∷ ts ++ members_tokens rest) (h.same no_items);
-}
+pub print_utf8 : (ts : List Token) → All IsPlainToken ts → IsUtf8 (print ts)
+print_utf8 ts h = from_utf8 false ts h

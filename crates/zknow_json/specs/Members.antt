@@ -1,25 +1,30 @@
 -- JSON objects (RFC 8259), by the tokens of their members. `print` of the kit's `json` spells tokens: without spaces,
 -- with the escapes of `"`, of the backslash and of the octets below 20.
-use Rattle.std.specs.Prelude.{ℕ, ℤ, if◌then◌else◌, List, [], ◌∷◌, ◌++◌, codes}
-use Rattle.std.specs.Fmt.{decimal, signed_decimal}
+use Rattle.std.specs.Prelude.{ℕ, suc, ℤ, pos, negsuc, if◌then◌else◌, List, [], ◌∷◌, ◌++◌, codes}
 use Rattle.std.specs.Str.{is_utf8}
 use Rattle.std.specs.Str.Lossy.{utf8_lossy}
 use Rattle.base64.specs.Engines.{standard}
 use Rattle.base64.specs.GeneralPurpose.{encode_of}
 use Rattle.json.specs.Token.{Token, begin_object, end_object, begin_array, end_array, key, string, number}
 use Rattle.json.specs.Print.{print}
+use Rattle.zber.specs.Dotted.{numeral}
 
 -- a member with a text
 unfoldable pub text_member : List ℕ → List ℕ → List Token
 text_member name text = key name ∷ string text ∷ []
 
--- a member with a natural number
+-- a member with a natural number, in decimal
 unfoldable pub natural_member : List ℕ → ℕ → List Token
-natural_member name n = key name ∷ number (decimal n) ∷ []
+natural_member name n = key name ∷ number (numeral n) ∷ []
+
+-- an integer in decimal, however large
+abbrev pub signed_numeral : ℤ → List ℕ
+signed_numeral (pos n) = numeral n
+signed_numeral (negsuc n) = 0x2D ∷ numeral (suc n)
 
 -- a member with an integer
 unfoldable pub integer_member : List ℕ → ℤ → List Token
-integer_member name n = key name ∷ number (signed_decimal n) ∷ []
+integer_member name n = key name ∷ number (signed_numeral n) ∷ []
 
 -- a member with octets, in base64 (RFC 4648, section 4)
 unfoldable pub octets_member : List ℕ → List ℕ → List Token

@@ -1,3 +1,5 @@
+pub mod ConditionTheory
+pub mod NameTheory
 pub mod SafeTexts
 pub mod SafeTheory
-pub mod Text
+pub mod Widths

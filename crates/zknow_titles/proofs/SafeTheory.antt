@@ -1,5 +1,5 @@
 -- Whatever the records, the names and the diagnostics are, the view is safe to print on a terminal.
-use Rattle.std.proofs.Common.{ℕ, ◌-◌, Bool, true, false, cond, not, Option, Some, None, List, [], ◌∷◌, ◌++◌, length, leb, eqb, refl, sym, subst, ℤ, pos}
+use Rattle.std.proofs.Common.{ℕ, zero, suc, ◌-◌, Bool, true, false, cond, not, Option, Some, None, List, [], ◌∷◌, ◌++◌, length, leb, eqb, refl, sym, subst, ℤ, pos}
 use Rattle.std.specs.Prelude.{◌&&◌, ◌||◌, ◌==◌, All, codes, map, slice_get, unwrap_or}
 use Rattle.std.specs.Fmt.{signed_decimal}
 use Rattle.std.specs.List.{flat_map}
@@ -35,7 +35,7 @@ use Rattle.zknow.specs.declared.tables.keys.SetKey.{SetKey}
 use Rattle.zknow.specs.Known.{counts_at, records_at, is_failed_at, diags_at}
 use Rattle.zknow_titles.specs.declared.rows.Widths.{Widths}
 use Rattle.zknow_titles.specs.Blocks.{joined_behind, joined_by, count_part, shown_count, behind_colon, heading, failure_part, search_text, request_text, block_parts, block_line}
-use Rattle.zknow_titles.specs.Columns.{char_columns, fitting, clipped, width, padded}
+use Rattle.zknow_titles.specs.Columns.{char_columns, fitting, cut, widest_cut, clipped, width, padded}
 use Rattle.zknow_titles.specs.Conditions.{condition_words}
 use Rattle.zknow_titles.specs.Diagnostics.{bib1, behind_number, condition_text, bracketed, diag_words}
 use Rattle.zknow_titles.specs.Entries.{EntryText, plain, syntax_text, counted_octets, other_entry, marc_entry, octets_entry, element_entry, content_entry, body_entry, entry, sutrs, xml, unimarc, is_marc}
@@ -55,7 +55,7 @@ behind_number_safe (Some words) = both_safe (literal_safe (0x20 ∷ []) refl) (t
 condition_safe : (set : List ℕ) (condition : ℤ) → IsSafeText (condition_text set condition)
 condition_safe set condition =
     either_safe (bytes_eq set bib1)
-    (both_safe (signed_safe condition) (behind_number_safe (condition_words (signed_decimal condition))))
+    (both_safe (signed_safe condition) (behind_number_safe (condition_words condition)))
     (both_safe (both_safe (both_safe (literal_safe (codes "condition ") refl) (signed_safe condition))
     (literal_safe (codes " of ") refl)) (dotted_safe set))
 
@@ -77,7 +77,7 @@ some_name_safe : (target : ℕ) (name : Option (List ℕ))
 some_name_safe target None = both_safe (literal_safe (0x23 ∷ []) refl) (decimal_safe target)
 some_name_safe target (Some name) = text_is_safe Utf8 name
 
-label_safe : (names : List (List ℕ)) (target set : ℕ) → IsSafeText (label (shown_names names) target set)
+pub label_safe : (names : List (List ℕ)) (target set : ℕ) → IsSafeText (label (shown_names names) target set)
 label_safe names target set =
     let same = slice_get-map (text Utf8) names target in
     both_safe (subst (λ o. IsSafeText (name_or_number target o)) (sym same)
@@ -94,12 +94,17 @@ fitting_safe room (c ∷ cs) h =
     (fitting_safe (room - char_columns c) cs (All-tail IsSafe c cs h)))
     (λ _. All-nil IsSafe)
 
-clipped_safe : (most : ℕ) (t : List ℕ) → IsSafeText t → IsSafeText (clipped most t)
+widest_cut_safe : (most room : ℕ) (cs : List ℕ) → All IsSafe cs → IsSafeText (widest_cut most room cs)
+widest_cut_safe most zero cs h = ellipsis_safe
+widest_cut_safe most (suc room) cs h =
+    either_safe _
+    (both_safe (characters_safe (fitting (suc room) cs) (fitting_safe (suc room) cs h)) ellipsis_safe)
+    (widest_cut_safe most room cs h)
+
+pub clipped_safe : (most : ℕ) (t : List ℕ) → IsSafeText t → IsSafeText (clipped most t)
 unfolding clipped
 clipped_safe most t s =
-    either_safe (leb (width t) most) s
-    (both_safe (characters_safe (fitting (most - 1) (chars t))
-    (fitting_safe (most - 1) (chars t) (safe_characters s))) ellipsis_safe)
+    either_safe (leb (width t) most) s (widest_cut_safe most (most - 1) (chars t) (safe_characters s))
 
 padded_safe : (columns : ℕ) (t : List ℕ) → IsSafeText t → IsSafeText (padded columns t)
 padded_safe columns t s = both_safe s (spaces_safe (columns - width t))
@@ -304,7 +309,7 @@ head_safe : (w : Widths) (names : List (List ℕ)) (k : RowKey) → IsSafeText (
 head_safe w names k =
     let gap = literal_safe (codes "  ") refl in
     let name = padded_safe w.name (row_name (shown_names names) k)
-    (clipped_safe 24 (label (shown_names names) k.target k.set) (label_safe names k.target k.set)) in
+    (clipped_safe _ (label (shown_names names) k.target k.set) (label_safe names k.target k.set)) in
     both_safe (both_safe (both_safe (both_safe (both_safe gap (spaces_safe (w.position - position_width k)))
     (signed_safe k.position)) gap) name) gap
 

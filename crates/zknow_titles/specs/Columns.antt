@@ -1,5 +1,5 @@
 -- Texts in the columns of a terminal.
-use Rattle.std.specs.Prelude.{ℕ, false, ◌-◌, nat_le, if◌then◌else◌, unwrap_or, List, [], ◌∷◌, ◌++◌, replicate}
+use Rattle.std.specs.Prelude.{ℕ, zero, suc, false, ◌-◌, nat_le, if◌then◌else◌, unwrap_or, List, [], ◌∷◌, ◌++◌, replicate}
 use Rattle.std.specs.Str.{chars, encode_utf8_all}
 use Rattle.unicode_width.specs.Width.{char_width, str_width}
 
@@ -20,10 +20,20 @@ fitting room (c ∷ cs) = if nat_le (char_columns c) room then c ∷ fitting (ro
 abbrev pub ellipsis : List ℕ
 ellipsis = 0xE2 ∷ 0x80 ∷ 0xA6 ∷ []
 
+-- the characters at the front that fit so many columns, and an ellipsis
+abbrev pub cut : ℕ → List ℕ → List ℕ
+cut room cs = encode_utf8_all (fitting room cs) ++ ellipsis
+
+-- The first cut that takes at most so many columns, of those with this room, with one column less, and so on. A text
+-- can be wider than its characters by themselves: U+2764 takes one column, and two before U+FE0F.
+abbrev pub widest_cut : ℕ → ℕ → List ℕ → List ℕ
+widest_cut most zero cs = ellipsis
+widest_cut most (suc room) cs =
+    if nat_le (width (cut (suc room) cs)) most then cut (suc room) cs else widest_cut most room cs
+
 -- the text, or its front and an ellipsis where it is wider than so many columns
 unfoldable pub clipped : ℕ → List ℕ → List ℕ
-clipped most text =
-    if nat_le (width text) most then text else encode_utf8_all (fitting (most - 1) (chars text)) ++ ellipsis
+clipped most text = if nat_le (width text) most then text else widest_cut most (most - 1) (chars text)
 
 -- so many spaces
 abbrev pub spaces : ℕ → List ℕ

@@ -23,7 +23,7 @@ behind_number (Some words) = 0x20 ∷ text Utf8 words
 -- a condition of bib-1 by its number and its words, of another set by its number and the set
 abbrev pub condition_text : List ℕ → ℤ → List ℕ
 condition_text set condition =
-    if bytes_eq set bib1 then signed_decimal condition ++ behind_number (condition_words (signed_decimal condition))
+    if bytes_eq set bib1 then signed_decimal condition ++ behind_number (condition_words condition)
     else codes "condition " ++ signed_decimal condition ++ codes " of " ++ dotted set
 
 -- additional information in brackets, nothing where it is empty

@@ -1,5 +1,6 @@
 pub mod Blocks
 pub mod Columns
+pub mod ConditionTable
 pub mod Conditions
 pub mod Diagnostics
 pub mod Entries

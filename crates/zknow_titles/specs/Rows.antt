@@ -33,11 +33,15 @@ wider shown w k = record {
 abbrev pub widths : List (List ℕ) → List RowKey → Widths
 widths shown rows = fold (wider shown) (record { position = 0; name = 0 }) rows
 
+-- a row's name as it is printed, filled up with spaces
+abbrev pub name_column : Widths → List (List ℕ) → RowKey → List ℕ
+name_column w shown k = padded w.name (row_name shown k)
+
 -- position and name
 abbrev pub row_head : Widths → List (List ℕ) → RowKey → List ℕ
 row_head w shown k =
     codes "  " ++ spaces (w.position - position_width k) ++ signed_decimal k.position
-    ++ codes "  " ++ padded w.name (row_name shown k) ++ codes "  "
+    ++ codes "  " ++ name_column w shown k ++ codes "  "
 
 -- year and text
 abbrev pub row_entry : EntryText → List ℕ

@@ -1,7 +1,7 @@
 //! Texts in the columns of a terminal.
 ghost use Rattle.std.specs.Prelude.{◌≡◌, ◌++◌, OnOk, IfOk, string_bytes};
 ghost use Rattle.std.specs.Str.{encode_utf8_all};
-ghost use Rattle.zknow_titles.specs.Columns.{width, char_columns, fitting, clipped, spaces, padded};
+ghost use Rattle.zknow_titles.specs.Columns.{width, char_columns, fitting, cut, widest_cut, clipped, spaces, padded};
 
 use crate::characters::read_chars;
 use std::alloc::{AllocError, Global};
@@ -38,6 +38,31 @@ fn put_fitting(columns: usize, read: &[char], out: &mut String) -> Result<(), Al
     Ok(())
 }
 
+/// Returns the characters at the front that fit so many columns, and an ellipsis.
+fn cut(alloc: Global, room: usize, read: &[char]) -> Result<String, AllocError>
+    ensures { IfOk result (λ clip. string_bytes clip ≡ cut room read.now) }
+{
+    let mut clip = String::new(alloc);
+    put_fitting(room, read, &mut clip)?;
+    clip.push_str("…")?;
+    Ok(clip)
+}
+
+/// Returns the first cut that fits so many columns, of those with so much room, with one column less, and so on.
+fn widest_cut(alloc: Global, most: usize, room: usize, read: &[char]) -> Result<String, AllocError>
+    ensures { IfOk result (λ clip. string_bytes clip ≡ widest_cut most room read.now) }
+{
+    let mut room = room;
+    while room > 0 {
+        let clip = cut(alloc, room, read)?;
+        if count_columns(clip.as_str()) <= most {
+            return Ok(clip);
+        }
+        room -= 1;
+    }
+    String::from_str(alloc, "…")
+}
+
 /// Returns the text, or its front and an ellipsis where it is wider than so many columns.
 #[tactic(auto, unfolding(crate::specs::Columns::clipped))]
 pub(crate) fn clip(alloc: Global, most: usize, text: &str) -> Result<String, AllocError>
@@ -46,11 +71,8 @@ pub(crate) fn clip(alloc: Global, most: usize, text: &str) -> Result<String, All
     if count_columns(text) <= most {
         return String::from_str(alloc, text);
     }
-    let mut clip = String::new(alloc);
     let read = read_chars(alloc, text)?;
-    put_fitting(most.saturating_sub(1), &read, &mut clip)?;
-    clip.push_str("…")?;
-    Ok(clip)
+    widest_cut(alloc, most, most.saturating_sub(1), &read)
 }
 
 /// Appends so many spaces.

@@ -27,7 +27,7 @@ fn put_condition(
     let number = condition.to_string(alloc)?;
     if set.arcs() == BIB_1.as_slice() {
         line.push_str(number.as_str())?;
-        if let Some(words) = find_words(number.as_bytes()) {
+        if let Some(words) = find_words(condition) {
             line.push(' ')?;
             put_text(alloc, Charset::Utf8, words, line)?;
         }

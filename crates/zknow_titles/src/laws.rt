@@ -1,7 +1,13 @@
 //! Laws of the definitions, each the contract of a function that does nothing.
-ghost use Rattle.zknow_titles.specs.Laws.{SafeLaw};
+ghost use Rattle.zknow_titles.specs.Laws.{SafeLaw, NamesLaw};
 
 /// The view is safe to print on a terminal, whatever the names and the facts are.
 pub fn safe_law()
     ensures { SafeLaw }
+{}
+
+/// The name of each row, as it is printed, takes at most 24 columns of a terminal, and as many as that of each other
+/// row, whatever the names and the facts are.
+pub fn names_law()
+    ensures { NamesLaw }
 {}

@@ -2,7 +2,7 @@
 ghost use Rattle.std.specs.Prelude.{◌≡◌, ◌++◌, OnOk, OnErr, IfOk, map, string_bytes};
 ghost use Rattle.std.specs.List.{flat_map};
 ghost use Rattle.zknow_titles.specs.Blocks.{block_line};
-ghost use Rattle.zknow_titles.specs.Laws.{IsSafeView};
+ghost use Rattle.zknow_titles.specs.Laws.{IsSafeView, HasNameColumns};
 ghost use Rattle.zknow_titles.specs.Lines.{ended_line, ended};
 ghost use Rattle.zknow_titles.specs.Rows.{row_lines};
 ghost use Rattle.zknow_titles.specs.Titles.{between, title_lines, titles};
@@ -94,7 +94,8 @@ fn view(alloc: Global, knowledge: &Knowledge, names: &Names) -> Result<Vec<u8>, 
 /// known, by position, target and set. Of several records at a position it says how many they are, and then shows
 /// each.
 ///
-/// A target has its name in `names`, else `#` and its number. A name takes at most 24 columns of a terminal.
+/// A target has its name in `names`, else `#` and its number. The name of a row takes at most 24 columns of a terminal,
+/// by the widths of `unicode_width`, and is filled up to as many columns as the widest.
 ///
 /// Whatever the names, the diagnostics and the records are, the text is safe to print on a terminal: its lines are
 /// UTF-8 of safe characters alone (`IsSafeText` of `zmarc`).
@@ -110,6 +111,7 @@ pub fn print_titles(
     ensures ok { OnOk result (out.new.items ≡ out.old.items ++ titles names.now knowledge.now) }
     ensures err { OnErr result (out.new.items ≡ out.old.items) }
     ensures safe { IsSafeView (titles names.now knowledge.now) }
+    ensures columns { HasNameColumns names.now knowledge.now }
 {
     let text = view(alloc, knowledge, names)?;
     out.extend_from_slice(&text)

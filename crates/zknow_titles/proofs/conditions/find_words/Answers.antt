@@ -1,28 +1,15 @@
-use Rattle.std.proofs.Common.{◌≡◌, ◌+◌, ◌-◌, ◌<◌, ℕ, suc, sym, ap, ◌∙◌, arith}
-use Rattle.std.specs.Option.{option_copied}
-use Rattle.zknow_titles.specs.declared.conditions.TheConstants.{COUNT}
-use Rattle.zknow_titles.specs.Conditions.{words_of_line}
-use Rattle.zknow_titles.proofs.Text.{words_now, words_later, words_end}
+use mir.Val.{SFits}
+use Rattle.std.specs.Int.{w64}
+use Rattle.std.proofs.Common.{rules}
+use Rattle.std.proofs.lemmas.Int.{to_z-of_z}
+use Rattle.zknow_titles.proofs.ConditionTheory.{all_words}
 use Rattle.zknow_titles.proofs.conditions.find_words.Goals as goal
 
--- one more is left
-more : (i n : ℕ) → i < n → n - i ≡ suc (n - (i + 1))
-more i n h = omega arith
-
-pub returns-in-Some : goal.returns-in-Some
-returns-in-Some c =
-    let line = ap (words_of_line c.args.number.now) (sym c.split_line.ensures.line) ∙ sym c.read_words.ensures ∙ ap
-    option_copied c.in-Some.is in
-    sym (words_now (COUNT - c.loop.counter) _ c.args.number.now c.loop.text.now c.in-Some.words.now
-    (more _ _ c.loop-test.true) line) ∙ c.loop.invariant
-
-pub loop-preserved : goal.loop-preserved
-loop-preserved c =
-    let line = ap (words_of_line c.args.number.now) (sym c.split_line.ensures.line) ∙ sym c.read_words.ensures ∙ ap
-    option_copied c.in_default.is in
-    rw c.split_line.ensures.rest (sym (words_later (COUNT - c.loop.counter) _ c.args.number.now c.loop.text.now
-    (more _ _ c.loop-test.true) line) ∙ c.loop.invariant)
-
 pub returns : goal.returns
-returns c = sym (words_end (COUNT - c.loop.counter) c.args.number.now c.loop.text.now
-    (omega (arith, c.loop-test.false))) ∙ c.loop.invariant
+returns c =
+    let fits : SFits w64 c.args.condition = search rules in
+    let same = to_z-of_z w64 c.args.condition fits in
+    all_words c.args.condition c.or.result c.or-2.result c.or-3.result c.or-4.result c.find_in.result c.find_in-2.result
+    c.find_in-3.result c.find_in-4.result c.find_in-5.result c.or.ensures c.or-2.ensures c.or-3.ensures c.or-4.ensures
+    (rw same at c.find_in.ensures) (rw same at c.find_in-2.ensures) (rw same at c.find_in-3.ensures)
+    (rw same at c.find_in-4.ensures) (rw same at c.find_in-5.ensures)
