@@ -72,9 +72,10 @@ pub fn catalogue_laws()
 /// The laws of the lengths of the replies that a target owes to the requests for a question (Z39.50-2003, 3.3).
 ///
 /// - None is longer than a message may be, whatever replies the connection accepted. The premises: each record that is
-///   due fits, or its database has a name of at most 2,000,000 octets. If the target does not support the search, the
-///   text that says why has at most 2,000,000 octets.
+///   due fits, or its database has a name of at most 2,000,000 octets. If the target does not support the search, its
+///   response is no longer than a message may be.
 /// - The first premise holds if all records that are due fit, and if all databases have such names.
+/// - The second holds if the text that says why has at most 2,000,000 octets.
 pub fn length_laws()
     ensures { LengthLaws }
 {}

@@ -19,4 +19,7 @@ pub mod RunRounds
 pub mod RunFinishes
 pub mod RunTargets
 pub mod RunMoves
+pub mod RunMade
+pub mod RunAllowed
+pub mod RunFailures
 pub mod RunCatalogue

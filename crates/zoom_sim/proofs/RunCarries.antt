@@ -48,13 +48,13 @@ front_rest (suc k) (y ∷ x) = ap (λ l. y ∷ l) (front_rest k x)
 
 -- ---- one after the other
 
-join_given : (c : ℕ) (one two : History) → given (events_on c (two ++ one)) ≡ given (events_on c one) ++ given (events_on c two)
+pub join_given : (c : ℕ) (one two : History) → given (events_on c (two ++ one)) ≡ given (events_on c one) ++ given (events_on c two)
 join_given c one two = ap given (only_append c two one) ∙ given_append (events_on c two) (events_on c one)
 
-join_fed : (c : ℕ) (one two : History) → fed (events_on c (two ++ one)) ≡ fed (events_on c one) ++ fed (events_on c two)
+pub join_fed : (c : ℕ) (one two : History) → fed (events_on c (two ++ one)) ≡ fed (events_on c one) ++ fed (events_on c two)
 join_fed c one two = ap fed (only_append c two one) ∙ fed_append (events_on c two) (events_on c one)
 
-both : (q : List Question) (s : MetaSettings) (c : ℕ) (h : History) (holdings : Holdings) (host_events : List HostEvent)
+abbrev pub both : (q : List Question) (s : MetaSettings) (c : ℕ) (h : History) (holdings : Holdings) (host_events : List HostEvent)
     (mid new : MetaLinks) (was between now : Peer) (one : IsCarried q s c h holdings host_events mid was between)
     → IsCarried q s c (one.events ++ h) holdings (one.host_more ++ host_events) new between now
     → IsCarried q s c h holdings host_events new was now
@@ -83,10 +83,10 @@ carries_trans c a b d p q r f g = record {
 }
 
 -- no octets are carried
-silent_to : (x : List ℕ) (events : List Event) → given events ≡ [] → x ++ given events ≡ [] ++ x
+pub silent_to : (x : List ℕ) (events : List Event) → given events ≡ [] → x ++ given events ≡ [] ++ x
 silent_to x events e = ap (λ z. x ++ z) e ∙ append-nil x
 
-silent_from : (x : List ℕ) (events : List Event) → fed events ≡ [] → x ++ [] ≡ fed events ++ x
+pub silent_from : (x : List ℕ) (events : List Event) → fed events ≡ [] → x ++ [] ≡ fed events ++ x
 silent_from x events e = append-nil x ∙ ap (λ z. z ++ x) (sym e)
 
 pub goes_carries : (c : ℕ) (old new : MetaLinks) (p : Peer) → SilentStep old new → CarryStep c old new p p
@@ -110,7 +110,7 @@ goes_carries c old new p g = record {
 pub other_silent : (c i : ℕ) (event : Event) → (c == i) ≡ false → IsSilent (events_on i ((c, event) ∷ []))
 other_silent c i event e = subst IsSilent (sym (only_other c i event [] e)) (refl, refl)
 
-own : (c : ℕ) (event : Event) → events_on c ((c, event) ∷ []) ≡ event ∷ []
+pub own : (c : ℕ) (event : Event) → events_on c ((c, event) ∷ []) ≡ event ∷ []
 own c event = only_same c event []
 
 -- the octets that waited on the connection are on their way, and a piece was fed to the target
@@ -151,12 +151,12 @@ from_carries c old new was now pipe piece k gives fills front recorded left same
 
 -- ---- replies
 
-abbrev IsQuietEvent : HostEvent → Type 0
+abbrev pub IsQuietEvent : HostEvent → Type 0
 IsQuietEvent (Released k) = Unit {0}
 IsQuietEvent (Lost k) = Unit {0}
 IsQuietEvent _ = ⊥
 
-quiet_fed : (host_event : HostEvent) → IsQuietEvent host_event → (fed_to (host_event ∷ []) ≡ []) × (handed_out (host_event ∷ []) ≡ [])
+pub quiet_fed : (host_event : HostEvent) → IsQuietEvent host_event → (fed_to (host_event ∷ []) ≡ []) × (handed_out (host_event ∷ []) ≡ [])
 quiet_fed (HostFed piece) n = absurd n
 quiet_fed (HostFedPart piece) n = absurd n
 quiet_fed (Released k) n = (refl, refl)

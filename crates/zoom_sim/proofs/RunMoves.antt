@@ -1,6 +1,6 @@
 -- What moves carry and what they leave, as events.
-use Rattle.std.proofs.Common.{◌≡◌, ◌∙◌, inl, inr, sym, ap, subst, ℕ, suc, ◌+◌, ◌-◌, ◌^◌, ◌<◌, ◌≤◌, Bool, true, false, List, [], ◌∷◌, ◌++◌, length, take, drop, slice_get, get_or, Option, Some, Result, Ok, Err, refl, arith}
-use Rattle.std.specs.Prelude.{slice_set, OnOk}
+use Rattle.std.proofs.Common.{◌≡◌, ◌∙◌, inl, inr, sym, ap, subst, ℕ, suc, ◌+◌, ◌-◌, ◌^◌, ◌<◌, ◌≤◌, Bool, true, false, List, [], ◌∷◌, ◌++◌, length, take, drop, slice_get, get_or, Option, Some, Result, Ok, Err, refl, arith, true≢false}
+use Rattle.std.specs.Prelude.{◌⊎◌, ◌==◌, ◌&&◌, nat_lt, slice_set, IfOk}
 use Rattle.std.proofs.lemmas.Option.{slice_get-get_or}
 use Rattle.std.proofs.Math.Seq.{take-suc}
 use Rattle.zorigin.specs.Standings.{Call}
@@ -16,7 +16,7 @@ use Rattle.zoom_pool.specs.Links.{waiting_at}
 use Rattle.zoom_pool.specs.Metas.{MetaLinks, MetaAfter, MetaRecorded, MetaTakeStep, DriveResult, Progress, call_events}
 use Rattle.zoom_sim.specs.declared.peers.Peer.{Peer}
 use Rattle.zoom_sim.specs.RunSound.{at_connection}
-use Rattle.zoom_sim.specs.RunMoves.{IsDrivenEvent, AreDrivenEvents, MoreDrivenEvents, DrivenStep, FailureStep, arrived, still_left, PeerReleaseResult, AreReleased, AllAreReleased, Carriage, AfterCarryTo, AfterFeedFrom, AfterCarryFrom, connection_of, AfterMove, AfterMoveIf, AreMade, one_made}
+use Rattle.zoom_sim.specs.RunMoves.{AreDrivenEvents, MoreDrivenEvents, DrivenStep, InputEndsStep, is_done, EndIf, FailureStep, arrived, is_some_of, still_left, IsReleasedAs, AreReleased, AllAreReleased, Carriage, Failing, AfterCarryTo, AfterFeedFrom, AfterCarryFrom, connection_of, AfterMove, AfterMoveIf, AreMade, one_made}
 use Rattle.zoom_sim.proofs.RunSound.{of_append}
 
 -- ---- a connection that is driven
@@ -41,11 +41,24 @@ driven_trans c a b d f g = record {
       };
 }
 
-pub driven_event : (c : ℕ) (event : Event) (old new : MetaLinks) → IsDrivenEvent event → MetaRecorded c event old new
-    → DrivenStep c old new
-driven_event c event old new n r = record {
-  on = λ q s h a. record { events = event ∷ []; driven = (n, tt); after = r q s [] h a };
-}
+-- the target stopped and none of its octets is left
+pub ended_if : (c : ℕ) (peer : Peer) (old new : MetaLinks) → peer.host.stopped ≡ true → (length peer.from == 0) ≡ true
+    → InputEndsStep c old new → EndIf (is_done peer) c old new
+ended_if c peer old new stopped none e = subst (λ b. EndIf b c old new) (sym (and_true stopped none)) e
+  where
+    and_true : {a b : Bool} → a ≡ true → b ≡ true → a && b ≡ true
+    and_true {a} {b} p q = ap (λ z. z && b) p ∙ q
+
+-- it did not, or some are left
+pub not_ended : (c : ℕ) (peer : Peer) (meta : MetaLinks)
+    → (peer.host.stopped ≡ false) ⊎ ((length peer.from == 0) ≡ false) → EndIf (is_done peer) c meta meta
+not_ended c peer meta either =
+    subst (λ b. EndIf b c meta meta) (sym (and_false peer.host.stopped (length peer.from == 0) either)) refl
+  where
+    and_false : (a b : Bool) → (a ≡ false) ⊎ (b ≡ false) → a && b ≡ false
+    and_false true b (inl e) = absurd (true≢false e)
+    and_false true b (inr e) = e
+    and_false false b e = refl
 
 pub took_driven : (c : ℕ) (old new : MetaLinks) → MetaTakeStep c old new → DrivenStep c old new
 took_driven c old new t = record {
@@ -100,9 +113,10 @@ module _ {C : Type 0} (carries : Carriage C) (c k n : ℕ) (came : Bool) (channe
 
   pub carried_to : pipe ≡ was.to ++ waiting_at old.pool c → MetaRecorded c (HandedOut (waiting_at old.pool c)) old new
       → HostRecorded (HostFed piece) was.host now.host → now.to ≡ drop (length piece) pipe → now.from ≡ was.from
-      → AfterCarryTo carries c k channel later old new was now
+      → AfterCarryTo carries (is_some_of piece) c k channel later old new was now
   carried_to fills handed fed left same = record {
     came = came;
+    some = ap is_some_of (piece_is (was.to ++ waiting_at old.pool c) fills);
     carried = carried_is (was.to ++ waiting_at old.pool c) fills;
     step = record {
       handed = handed;
@@ -115,9 +129,10 @@ module _ {C : Type 0} (carries : Carriage C) (c k n : ℕ) (came : Bool) (channe
   pub fed_from : pipe ≡ was.from ++ was.host.waiting
       → HostRecorded (HostHandedOut was.host.waiting) was.host now.host → MetaRecorded c (Fed piece) old new
       → now.from ≡ drop (length piece) pipe → now.to ≡ was.to
-      → AfterFeedFrom carries c k channel later old new was now
+      → AfterFeedFrom carries (is_some_of piece) c k channel later old new was now
   fed_from fills handed fed left same = record {
     came = came;
+    some = ap is_some_of (piece_is (was.from ++ was.host.waiting) fills);
     carried = carried_is (was.from ++ was.host.waiting) fills;
     step = record {
       handed = handed;
@@ -128,30 +143,36 @@ module _ {C : Type 0} (carries : Carriage C) (c k n : ℕ) (came : Bool) (channe
   }
 
 -- the connection was then stopped if the channel failed, and driven
-pub carried_from : {C : Type 0} (carries : Carriage C) (fails : C → ℕ → Option Reason → Type 0) (c k : ℕ)
-    (failure : Option Reason) (channel later : C) (old mid stopped new : MetaLinks) (was now : Peer)
-    → AfterFeedFrom carries c k channel later old mid was now → fails later c failure → FailureStep c failure mid stopped
-    → DrivenStep c stopped new → AfterCarryFrom carries fails c k channel later old new was now
-carried_from carries fails c k failure channel later old mid stopped new was now f failed stops driven = record {
-  came = f.came;
-  failure = failure;
-  carried = f.carried;
-  failed = failed;
-  step = record {
-    fed_meta = mid;
-    stopped_meta = stopped;
-    carried = f.step;
-    stopped = stops;
-    driven = driven;
-  };
-}
+pub carried_from : {C : Type 0} (carries : Carriage C) (fails : Failing C) (any : Bool) (c k : ℕ)
+    (failure : Option Reason) (channel later : C) (old mid stopped taken new : MetaLinks) (was now : Peer)
+    → AfterFeedFrom carries any c k channel later old mid was now → fails later c failure
+    → FailureStep c failure mid stopped → DrivenStep c stopped taken → EndIf (is_done now) c taken new
+    → AfterCarryFrom carries fails any c k channel later old new was now
+carried_from carries fails any c k failure channel later old mid stopped taken new was now f failed stops driven ends =
+    record {
+      came = f.came;
+      some = f.some;
+      failure = failure;
+      carried = f.carried;
+      failed = failed;
+      step = record {
+        fed_meta = mid;
+        stopped_meta = stopped;
+        taken_meta = taken;
+        carried = f.step;
+        stopped = stops;
+        driven = driven;
+        ended = ends;
+      };
+    }
 
 -- ---- replies
 
 pub released_one : {E : Type 0} (k : ℕ) (answer : Result Bool E) (was : Peer) (host : HostState)
-    → ReleaseResult k answer was.host host → OnOk answer (PeerReleaseResult k was (record was { host = host }))
-released_one k (Ok true) was host r = (true, record { result = r; to = refl; from = refl })
-released_one k (Ok false) was host r = (false, record { result = r; to = refl; from = refl })
+    → ReleaseResult k answer was.host host
+    → IfOk answer (λ any. IsReleasedAs k any was (record was { host = host }))
+released_one k (Ok true) was host r = record { result = r; to = refl; from = refl }
+released_one k (Ok false) was host r = record { result = r; to = refl; from = refl }
 released_one k (Err e) was host r = tt
 
 -- one reply more is released
@@ -165,54 +186,59 @@ released_more E n was mid host before r =
     one_more = omega arith
 
 -- none is left
-pub released_last : (E : Type 0) (n : ℕ) (was mid : Peer) (host : HostState) → AreReleased n was mid
-    → ReleaseResult {E = E} 0 (Ok false) mid.host host → AllAreReleased was (record mid { host = host })
-released_last E n was mid host before r = record {
+pub released_last : (E : Type 0) (any : Bool) (n : ℕ) (was mid : Peer) (host : HostState) → any ≡ nat_lt 0 n
+    → AreReleased n was mid → ReleaseResult {E = E} 0 (Ok false) mid.host host
+    → AllAreReleased any was (record mid { host = host })
+released_last E any n was mid host some before r = record {
   count = n;
+  some = some;
   before = mid;
   released = before;
   last = inl (record { result = r; to = refl; from = refl });
 }
 
-pub released_most : (n : ℕ) (was now : Peer) → 2 ^ 64 - 1 ≤ n → AreReleased n was now → AllAreReleased was now
-released_most n was now most before = record { count = n; before = now; released = before; last = inr (most, refl) }
+pub released_most : (any : Bool) (n : ℕ) (was now : Peer) → any ≡ nat_lt 0 n → 2 ^ 64 - 1 ≤ n → AreReleased n was now
+    → AllAreReleased any was now
+released_most any n was now some most before =
+    record { count = n; some = some; before = now; released = before; last = inr (most, refl) }
 
 -- ---- moves
 
-module _ {C E : Type 0} (to from : Carriage C) (fails : C → ℕ → Option Reason → Type 0) (c : ℕ) (channel later : C)
+module _ {C E : Type 0} (to from : Carriage C) (fails : Failing C) (c : ℕ) (channel later : C)
     (old new : MetaLinks) (was now : Peer) (r : Result Bool E) where
+  abbrev made_by : Move → Bool → Type 0
+  made_by step any = AfterMove to from fails any c step channel later old new was now
+
   pub moved_to : (step : Move) (d k : ℕ) → step ≡ moves.To d k
-      → OnOk r (AfterCarryTo to c k channel later old new was now)
-      → OnOk r (AfterMove to from fails c step channel later old new was now)
-  moved_to step d k is f =
-      subst (λ z. OnOk r (AfterMove to from fails c z channel later old new was now)) (sym is) f
+      → IfOk r (λ any. AfterCarryTo to any c k channel later old new was now) → IfOk r (made_by step)
+  moved_to step d k is f = subst (λ z. IfOk r (made_by z)) (sym is) f
 
   pub moved_from : (step : Move) (d k : ℕ) → step ≡ moves.From d k
-      → OnOk r (AfterCarryFrom from fails c k channel later old new was now)
-      → OnOk r (AfterMove to from fails c step channel later old new was now)
-  moved_from step d k is f =
-      subst (λ z. OnOk r (AfterMove to from fails c z channel later old new was now)) (sym is) f
+      → IfOk r (λ any. AfterCarryFrom from fails any c k channel later old new was now) → IfOk r (made_by step)
+  moved_from step d k is f = subst (λ z. IfOk r (made_by z)) (sym is) f
 
-pub moved_release : {C E : Type 0} (to from : Carriage C) (fails : C → ℕ → Option Reason → Type 0) (c : ℕ) (channel : C)
+pub moved_release : {C E : Type 0} (to from : Carriage C) (fails : Failing C) (c : ℕ) (channel : C)
     (meta : MetaLinks) (was now : Peer) (r : Result Bool E) (step : Move) (d k : ℕ) → step ≡ moves.Release d k
-    → OnOk r (PeerReleaseResult k was now) → OnOk r (AfterMove to from fails c step channel channel meta meta was now)
+    → IfOk r (λ any. IsReleasedAs k any was now)
+    → IfOk r (λ any. AfterMove to from fails any c step channel channel meta meta was now)
 moved_release to from fails c channel meta was now (Ok b) step d k is f =
-    subst (λ z. AfterMove to from fails c z channel channel meta meta was now) (sym is) (refl, refl, f)
+    subst (λ z. AfterMove to from fails b c z channel channel meta meta was now) (sym is) (refl, refl, f)
 moved_release to from fails c channel meta was now (Err e) step d k is f = tt
 
-module _ {C : Type 0} (to from : Carriage C) (fails : C → ℕ → Option Reason → Type 0) (step : Move) (n : ℕ)
+module _ {C : Type 0} (to from : Carriage C) (fails : Failing C) (any : Bool) (step : Move) (n : ℕ)
     (own : n ≡ connection_of step) (channel later : C) (old new : MetaLinks) (peers : List Peer) (p r : Peer) where
-  pub move_made : n < length peers → AfterMove to from fails n step channel later old new (get_or peers n p) r
+  pub move_made : n < length peers → AfterMove to from fails any n step channel later old new (get_or peers n p) r
       → AfterMoveIf to from fails step channel later old new peers (slice_set peers n r)
   move_made lt made = inl (record {
+    any = any;
     before = get_or peers n p;
     after = r;
     there = subst (λ z. slice_get peers z ≡ Some (get_or peers n p)) own (slice_get-get_or peers n p lt);
-    made = subst (λ z. AfterMove to from fails z step channel later old new (get_or peers n p) r) own made;
+    made = subst (λ z. AfterMove to from fails any z step channel later old new (get_or peers n p) r) own made;
     peers = ap (λ z. slice_set peers z r) own;
   })
 
-pub move_none : {C : Type 0} (to from : Carriage C) (fails : C → ℕ → Option Reason → Type 0) (step : Move) (n : ℕ)
+pub move_none : {C : Type 0} (to from : Carriage C) (fails : Failing C) (step : Move) (n : ℕ)
     → n ≡ connection_of step → (channel : C) (meta : MetaLinks) (peers : List Peer) → length peers ≤ n
     → AfterMoveIf to from fails step channel channel meta meta peers peers
 move_none to from fails step n own channel meta peers past = inr (record {
@@ -223,7 +249,7 @@ move_none to from fails step n own channel meta peers past = inr (record {
 })
 
 -- one move more is made
-pub made_more : {C : Type 0} (to from : Carriage C) (fails : C → ℕ → Option Reason → Type 0) (channel mid later : C)
+pub made_more : {C : Type 0} (to from : Carriage C) (fails : Failing C) (channel mid later : C)
     (old meta new : MetaLinks) (was peers now : List Peer) (steps : List Move) (i : ℕ) (d : Move) → i < length steps
     → AreMade to from fails channel old was (take i steps) mid meta peers
     → AfterMoveIf to from fails (get_or steps i d) mid later meta new peers now

@@ -10,7 +10,7 @@ use Rattle.zoom_questions.specs.declared.question.MetaSettings.{MetaSettings}
 use Rattle.zoom_pool.specs.Transcripts.{Event, given, fed}
 use Rattle.zoom_pool.specs.History.{History, events_on}
 use Rattle.zoom_questions.specs.NewTargets.{IsNew, AreNew}
-use Rattle.zoom_pool.specs.Hosts.{holdings_of, handed_out}
+use Rattle.zoom_pool.specs.Hosts.{Holdings, HostEvent, HostAfter, holdings_of, handed_out}
 use Rattle.zoom_pool.specs.Metas.{MetaLinks, MetaAfter}
 use Rattle.zoom_pool.proofs.Pools.{only_append, got, get_same, get_other}
 use Rattle.zoom_pool.proofs.Metas.{slice_some}
@@ -32,7 +32,7 @@ join_given c h more = ap given (only_append c more h) ∙ given_append (events_o
 join_fed : (c : ℕ) (h more : History) → fed (events_on c (more ++ h)) ≡ fed (events_on c h) ++ fed (events_on c more)
 join_fed c h more = ap fed (only_append c more h) ∙ fed_append (events_on c more) (events_on c h)
 
-silent_tied : (t : TargetState) (c : ℕ) (h more : History) (p : Peer) → IsSilent (events_on c more) → IsExchangeUnderway t (events_on c h) p
+pub silent_tied : (t : TargetState) (c : ℕ) (h more : History) (p : Peer) → IsSilent (events_on c more) → IsExchangeUnderway t (events_on c h) p
     → IsExchangeUnderway t (events_on c (more ++ h)) p
 silent_tied t c h more p none tie = record {
   host_events = tie.host_events;
@@ -89,48 +89,64 @@ goes_world old new peers g = record {
 pub same_world : (meta : MetaLinks) (peers : List Peer) → AfterMoves meta meta peers peers
 same_world meta peers = record { on = λ q s ts w. (w, ([], refl)) }
 
--- the connection's target, and the exchange of both
-pub carries_world : (c : ℕ) (old new : MetaLinks) (peers : List Peer) (p r : Peer) → slice_get peers c ≡ Some p
-    → CarryStep c old new p r → AfterMoves old new peers (slice_set peers c r)
-carries_world c old new peers p r here f = record { on = λ q s ts w. at q s ts w }
-  where
-    within : c < length peers
-    within = slice_get_within peers c p here
+-- The connection's target, and the exchange of both. Of the events more is known.
+module _ (P : History → Type 0) (c : ℕ) (old new : MetaLinks) (peers : List Peer) (p r : Peer)
+    (here : slice_get peers c ≡ Some p) where
+  abbrev pub CarryOf : Type 0
+  CarryOf =
+      (q : List Question) (s : MetaSettings) (h : History) (holdings : Holdings) (host_events : List HostEvent)
+      → MetaAfter q s h old → HostAfter holdings host_events p.host
+      → (w : IsCarried q s c h holdings host_events new p r) × P w.events
 
-    at : (q : List Question) (s : MetaSettings) (ts : List TargetState) (w : IsReachableWorld q s ts old peers)
-        → (v : IsReachableWorld q s ts new (slice_set peers c r)) × IsContinued w.history v.history
-    at q s ts w =
+  within : c < length peers
+  within = slice_get_within peers c p here
+
+  module _ (q : List Question) (s : MetaSettings) (ts : List TargetState) (w : IsReachableWorld q s ts old peers) where
+    each : (mine : TargetState) → slice_get ts c ≡ Some mine → (events : History)
+        → ((i : ℕ) → (c == i) ≡ false → IsSilent (events_on i events))
+        → IsExchangeUnderway mine (events_on c (events ++ w.history)) r
+        → (i : ℕ) (t : TargetState) (z : Peer) → slice_get ts i ≡ Some t → slice_get (slice_set peers c r) i ≡ Some z
+        → (b : Bool) → (c == i) ≡ b → IsExchangeUnderway t (events_on i (events ++ w.history)) z
+    each mine is events others own i t z got by true e =
+        let same : c ≡ i = grind (arith, nat_tests) in
+        let which : mine ≡ t = some_is (sym is ∙ subst (λ n. slice_get ts n ≡ Some t) (sym same) got) in
+        let what : r ≡ z = some_is (sym (get_same peers c r within)
+        ∙ subst (λ n. slice_get (slice_set peers c r) n ≡ Some z) (sym same) by) in
+        subst (λ n. IsExchangeUnderway t (events_on n (events ++ w.history)) z) same
+        (subst (λ x. IsExchangeUnderway x (events_on c (events ++ w.history)) z) which
+        (subst (λ x. IsExchangeUnderway mine (events_on c (events ++ w.history)) x) what own))
+    each mine is events others own i t z got by false e =
+        silent_tied t i w.history events z (others i e)
+        (w.tied i t z got (sym (get_other peers c i r e) ∙ by))
+
+    -- the world after it, whose history has these events more
+    pub carried_world : CarryOf
+        → (v : IsReachableWorld q s ts new (slice_set peers c r))
+        × ((more : History) × P more × (v.history ≡ more ++ w.history))
+    carried_world f =
         let found = slice_some ts c (subst (λ n. c < n) w.size within) in
         let tie : IsExchangeUnderway found.0 (events_on c w.history) p = w.tied c found.0 p found.1 here in
-        let more : IsCarried q s c w.history (holdings_of found.0) tie.host_events new p r =
-        f.on q s w.history (holdings_of found.0) tie.host_events w.after tie.served in
+        let made = f q s w.history (holdings_of found.0) tie.host_events w.after tie.served in
+        let more : IsCarried q s c w.history (holdings_of found.0) tie.host_events new p r = made.0 in
         let own : IsExchangeUnderway found.0 (events_on c (more.events ++ w.history)) r =
         carried_tied q s found.0 c w.history new p r tie more in (
           record {
             history = more.events ++ w.history;
             after = more.after;
             size = length-set peers c r ∙ w.size;
-            tied = λ i t z got by. each q s ts w found.0 found.1 more.events more.others own i t z got by (c == i) refl;
+            tied = λ i t z got by. each found.0 found.1 more.events more.others own i t z got by (c == i) refl;
           },
-          (more.events, refl),
+          (more.events, made.1, refl),
         )
-      where
-        each : (q : List Question) (s : MetaSettings) (ts : List TargetState) (w : IsReachableWorld q s ts old peers)
-            (mine : TargetState) → slice_get ts c ≡ Some mine → (events : History)
-            → ((i : ℕ) → (c == i) ≡ false → IsSilent (events_on i events)) → IsExchangeUnderway mine (events_on c (events ++ w.history)) r
-            → (i : ℕ) (t : TargetState) (z : Peer) → slice_get ts i ≡ Some t → slice_get (slice_set peers c r) i ≡ Some z
-            → (b : Bool) → (c == i) ≡ b → IsExchangeUnderway t (events_on i (events ++ w.history)) z
-        each q s ts w mine is events others own i t z got by true e =
-            let same : c ≡ i = grind (arith, nat_tests) in
-            let which : mine ≡ t = some_is (sym is ∙ subst (λ n. slice_get ts n ≡ Some t) (sym same) got) in
-            let what : r ≡ z = some_is (sym (get_same peers c r within)
-            ∙ subst (λ n. slice_get (slice_set peers c r) n ≡ Some z) (sym same) by) in
-            subst (λ n. IsExchangeUnderway t (events_on n (events ++ w.history)) z) same
-            (subst (λ x. IsExchangeUnderway x (events_on c (events ++ w.history)) z) which
-            (subst (λ x. IsExchangeUnderway mine (events_on c (events ++ w.history)) x) what own))
-        each q s ts w mine is events others own i t z got by false e =
-            silent_tied t i w.history events z (others i e)
-            (w.tied i t z got (sym (get_other peers c i r e) ∙ by))
+
+pub carries_world : (c : ℕ) (old new : MetaLinks) (peers : List Peer) (p r : Peer) → slice_get peers c ≡ Some p
+    → CarryStep c old new p r → AfterMoves old new peers (slice_set peers c r)
+carries_world c old new peers p r here f = record {
+  on = λ q s ts w.
+      let v = carried_world (λ more. Unit {0}) c old new peers p r here q s ts w
+      (λ q s h holdings host_events a b. (f.on q s h holdings host_events a b, tt)) in
+      (v.0, (v.1.0, v.1.2));
+}
 
 pub step_world : (c : ℕ) (old new : MetaLinks) (peers : List Peer) (p r : Peer) → c < length peers
     → CarryStep c old new (get_or peers c p) r → AfterMoves old new peers (slice_set peers c r)
@@ -139,7 +155,7 @@ step_world c old new peers p r lt f =
 
 -- ---- the end
 
-talked : (t : TargetState) (events : List Event) (p : Peer) → IsExchangeUnderway t events p → IsExchange t events
+pub talked : (t : TargetState) (events : List Event) (p : Peer) → IsExchangeUnderway t events p → IsExchange t events
 talked t events p tie = record {
   host = p.host;
   host_events = tie.host_events;
@@ -206,7 +222,7 @@ peer_at (x ∷ ts) (y ∷ ps) zero t p a e f =
     subst (λ z. IsPeerOf z p) (some_is e) (subst (λ z. IsPeerOf x z) (some_is f) a.0)
 peer_at (x ∷ ts) (y ∷ ps) (suc c) t p a e f = peer_at ts ps c t p a.1 e f
 
-pub world_new : (q : List Question) (s : MetaSettings) (ts : List TargetState) (meta : MetaLinks) (peers : List Peer)
+abbrev pub world_new : (q : List Question) (s : MetaSettings) (ts : List TargetState) (meta : MetaLinks) (peers : List Peer)
     → MetaAfter q s [] meta → ArePeersOf ts peers → IsReachableWorld q s ts meta peers
 world_new q s ts meta peers a of = record {
   history = [];

@@ -3,6 +3,7 @@ pub mod RunSteps
 pub mod RunSound
 pub mod RunTakeAll
 pub mod RunMoves
+pub mod RunMade
 pub mod RunPeers
 pub mod RunRounds
 pub mod RunCatalogue

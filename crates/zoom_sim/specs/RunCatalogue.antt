@@ -40,7 +40,7 @@ abbrev pub IsUnskipped : ℕ → MetaLinks → Type 0
 IsUnskipped c meta = IsTranscriptValueUpTo c meta is_skipped false
 
 -- The search can be sent, or the target refuses associations, or the run did not skip the search. Each record that is
--- due fits. The text that says why the target does not support the search is short.
+-- due fits. If the target does not support the search, its response is no longer than a message may be.
 pub record IsAnswerable (c : ℕ) (q : Question) (t : TargetState) (meta : MetaLinks) : Type 0 where
   pub can : CanAsk q t.settings ⊎ IsUnskipped c meta
   pub fits : HasFittingRecords q t.databases t.settings

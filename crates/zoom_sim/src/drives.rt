@@ -7,7 +7,8 @@ ghost use Rattle.zoom_sim.specs.Run.{is_over};
 ghost use Rattle.zoom_sim.specs.RunSteps.{SilentStep, StopOneStep, StopAllStep};
 ghost use Rattle.zoom_sim.specs.RunSound.{DriveOneStep, TakeOneStep, TakeAllStep, EndInputStep, DriveAllStep, UnfinishedOnlyStep};
 ghost use Rattle.zoom_sim.specs.RunTakeAll.{QuietStep};
-ghost use Rattle.zoom_sim.specs.RunMoves.{DrivenStep, FailureStep};
+ghost use Rattle.zoom_sim.specs.RunMoves.{DrivenStep, InputEndsStep, FailureStep};
+ghost use Rattle.zoom_sim.specs.RunMade.{AllInTurn, EndUnlessOver, StopUnlessOver};
 
 use std::alloc::AllocError;
 use zoom_laws::laws::exchange_laws;
@@ -85,6 +86,7 @@ pub fn drive_all(meta: &mut Meta) -> Result<(), AllocError>
     requires { length meta.old.pool.connections < 2 ^ 32 }
     ensures on { OnOk result (SilentStep meta.old meta.new) }
     ensures starts { OnOk result (DriveAllStep (length meta.old.pool.connections) meta.old meta.new) }
+    ensures own { OnOk result (AllInTurn DrivenStep meta.old meta.new) }
     ensures size { length meta.new.pool.connections ≡ length meta.old.pool.connections }
 {
     exchange_laws();
@@ -117,6 +119,7 @@ fn end_input(meta: &mut Meta, c: u32) -> Result<(), AllocError>
     requires { c < length meta.old.pool.connections }
     ensures on { OnOk result (SilentStep meta.old meta.new) }
     ensures unfinished_only { OnOk result (UnfinishedOnlyStep meta.old meta.new) }
+    ensures own { OnOk result (EndUnlessOver c meta.old meta.new) }
     ensures size { length meta.new.pool.connections ≡ length meta.old.pool.connections }
 {
     if is_over(meta, c) {
@@ -131,7 +134,7 @@ pub(crate) fn end_taken(meta: &mut Meta, c: u32) -> Result<(), AllocError>
     requires { c < length meta.old.pool.connections }
     ensures on { OnOk result (SilentStep meta.old meta.new) }
     ensures ends { OnOk result (EndInputStep c meta.old meta.new) }
-    ensures own { OnOk result (DrivenStep c meta.old meta.new) }
+    ensures own { OnOk result (InputEndsStep c meta.old meta.new) }
     ensures size { length meta.new.pool.connections ≡ length meta.old.pool.connections }
 {
     meta.end(c);
@@ -144,6 +147,7 @@ pub(crate) fn end_inputs(meta: &mut Meta) -> Result<(), AllocError>
     requires { length meta.old.pool.connections < 2 ^ 32 }
     ensures on { OnOk result (SilentStep meta.old meta.new) }
     ensures unfinished_only { OnOk result (UnfinishedOnlyStep meta.old meta.new) }
+    ensures own { OnOk result (AllInTurn EndUnlessOver meta.old meta.new) }
     ensures size { length meta.new.pool.connections ≡ length meta.old.pool.connections }
 {
     for c in 0..meta.connections() {
@@ -170,6 +174,7 @@ fn stop(meta: &mut Meta, c: u32)
     requires { c < length meta.old.pool.connections }
     ensures after { StopOneStep c meta.old meta.new }
     ensures unfinished_only { UnfinishedOnlyStep meta.old meta.new }
+    ensures own { StopUnlessOver c meta.old meta.new }
     ensures size { length meta.new.pool.connections ≡ length meta.old.pool.connections }
 {
     if is_over(meta, c) {
@@ -183,6 +188,7 @@ pub(crate) fn stop_all(meta: &mut Meta)
     requires { length meta.old.pool.connections < 2 ^ 32 }
     ensures after { StopAllStep (length meta.old.pool.connections) meta.old meta.new }
     ensures unfinished_only { UnfinishedOnlyStep meta.old meta.new }
+    ensures own { AllInTurn StopUnlessOver meta.old meta.new }
     ensures size { length meta.new.pool.connections ≡ length meta.old.pool.connections }
 {
     for c in 0..meta.connections() {

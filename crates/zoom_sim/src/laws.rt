@@ -8,8 +8,8 @@ use zoom_pool::laws::one_transcript;
 /// databases, whatever the moves, windows and steps. The connection is Closed, and the search was not skipped.
 ///
 /// The law has three premises on the question. The search can be sent, or the target refuses associations, or the run
-/// did not skip the search. Each record that is due fits. If the target does not support the search, the text that says
-/// why has at most 2,000,000 octets.
+/// did not skip the search. Each record that is due fits. If the target does not support the search, its response is no
+/// longer than a message may be.
 pub fn run_law()
     ensures { RunLaw }
 {

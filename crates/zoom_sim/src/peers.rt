@@ -5,7 +5,7 @@ ghost use Rattle.zoom_questions.specs.NewTargets.{IsNew, AreNew};
 ghost use Rattle.zoom_sim.specs.RunSteps.{SilentStep, CarryStep, PeerReleaseStep, IsPeerOf, ArePeersOf};
 ghost use Rattle.zoom_sim.specs.RunSound.{PeerStep, PeerRound, PeerEndStep, SoundReleaseStep};
 ghost use Rattle.zoom_sim.specs.RunPeers.{CarryAllStep, ReleaseAllStep};
-ghost use Rattle.zoom_sim.specs.RunMoves.{DrivenStep, PeerReleaseResult, AllAreReleased, AfterCarryTo, AfterFeedFrom, AfterCarryFrom, PeerRoundStep, connection_of, AfterMove};
+ghost use Rattle.zoom_sim.specs.RunMoves.{is_done, EndIf, IsReleasedAs, AllAreReleased, AfterCarryTo, AfterFeedFrom, AfterCarryFrom, PeerRoundStep, connection_of, AfterMove};
 
 use crate::channels::Channel;
 use crate::drives::{end_taken, stop_for, take_all};
@@ -78,7 +78,7 @@ impl Peer {
         ensures all { W.sure ≡ true → k ≡ 2 ^ 64 - 1
             → OnOk result ((self.new.to ≡ []) × (waiting_at meta.new.pool c ≡ [])) }
         // what was carried
-        ensures carried { OnOk result (AfterCarryTo W.carries_to c k
+        ensures carried { IfOk result (λ any. AfterCarryTo W.carries_to any c k
             channel.old channel.new meta.old meta.new self.old self.new) }
         // in each case
         ensures size { length meta.new.pool.connections ≡ length meta.old.pool.connections }
@@ -111,7 +111,7 @@ impl Peer {
         ensures all { W.sure ≡ true → k ≡ 2 ^ 64 - 1 → OnOk result (CarryAllStep self.old self.new) }
         // what left the target, and what was carried
         ensures none { OnOk result (self.new.host.waiting ≡ []) }
-        ensures carried { OnOk result (AfterFeedFrom W.carries_from c k
+        ensures carried { IfOk result (λ any. AfterFeedFrom W.carries_from any c k
             channel.old channel.new meta.old meta.new self.old self.new) }
         // in each case
         ensures size { length meta.new.pool.connections ≡ length meta.old.pool.connections }
@@ -138,7 +138,7 @@ impl Peer {
         ensures ends { self.now.host.waiting ≡ [] → self.now.from ≡ []
             → OnOk result (PeerEndStep c true meta.old meta.new self.now self.now) }
         // the events of the connection, and the number of connections
-        ensures own { OnOk result (DrivenStep c meta.old meta.new) }
+        ensures own { OnOk result (EndIf (is_done self.now) c meta.old meta.new) }
         ensures size { length meta.new.pool.connections ≡ length meta.old.pool.connections }
     {
         accord_laws();
@@ -170,7 +170,7 @@ impl Peer {
         ensures ends { W.sure ≡ true → k ≡ 2 ^ 64 - 1 → IfOk result
             (λ carried. PeerEndStep c (not carried) meta.old meta.new self.old self.new) }
         // what was carried
-        ensures carried { OnOk result (AfterCarryFrom W.carries_from W.fails c k
+        ensures carried { IfOk result (λ any. AfterCarryFrom W.carries_from W.fails any c k
             channel.old channel.new meta.old meta.new self.old self.new) }
         // in each case
         ensures size { length meta.new.pool.connections ≡ length meta.old.pool.connections }
@@ -186,7 +186,7 @@ impl Peer {
     fn release(&mut self, k: usize) -> Result<bool, AllocError>
         ensures releases { OnOk result (PeerReleaseStep self.old self.new) }
         ensures fine { OnOk result (SoundReleaseStep self.old self.new) }
-        ensures released { OnOk result (PeerReleaseResult k self.old self.new) }
+        ensures released { IfOk result (λ any. IsReleasedAs k any self.old self.new) }
     {
         exchange_laws();
         self.host.release(k)
@@ -197,7 +197,7 @@ impl Peer {
         ensures releases { OnOk result (PeerReleaseStep self.old self.new) }
         ensures fine { OnOk result (SoundReleaseStep self.old self.new) }
         ensures empties { OnOk result (ReleaseAllStep self.old self.new) }
-        ensures all { OnOk result (AllAreReleased self.old self.new) }
+        ensures all { IfOk result (λ any. AllAreReleased any self.old self.new) }
     {
         exchange_laws();
         let mut released = false;
@@ -222,7 +222,7 @@ impl Peer {
         ensures carries { OnOk result (CarryStep c meta.old meta.new self.old self.new) }
         ensures steps { W.sure ≡ true
             → OnOk result (PeerStep c true true false meta.old meta.new self.old self.new) }
-        ensures moved { OnOk result (AfterMove W.carries_to W.carries_from W.fails c step
+        ensures moved { IfOk result (λ any. AfterMove W.carries_to W.carries_from W.fails any c step
             channel.old channel.new meta.old meta.new self.old self.new) }
         ensures size { length meta.new.pool.connections ≡ length meta.old.pool.connections }
     {
@@ -247,7 +247,7 @@ impl Peer {
         ensures carries { OnOk result (CarryStep c meta.old meta.new self.old self.new) }
         ensures rounds { W.sure ≡ true
             → IfOk result (λ moved. PeerRound c moved meta.old meta.new self.old self.new) }
-        ensures moved { OnOk result (PeerRoundStep W.carries_to W.carries_from W.fails c
+        ensures moved { IfOk result (λ any. PeerRoundStep W.carries_to W.carries_from W.fails any c
             channel.old channel.new meta.old meta.new self.old self.new) }
         ensures size { length meta.new.pool.connections ≡ length meta.old.pool.connections }
     {

@@ -6,7 +6,8 @@ ghost use Rattle.zoom_questions.specs.declared.question.MetaSettings.{MetaSettin
 ghost use Rattle.zoom_pool.specs.Metas.{MetaAfter};
 ghost use Rattle.zoom_sim.specs.RunSteps.{AfterMoves, AfterAllRounds, ArePeersOf};
 ghost use Rattle.zoom_sim.specs.RunRounds.{AfterSoundMoves, AfterSoundRound, AfterRoundOrEnd, AfterAllSoundRounds, IsCompleteRun};
-ghost use Rattle.zoom_sim.specs.RunMoves.{AfterMoveIf, AreMade, MovesFirst};
+ghost use Rattle.zoom_sim.specs.RunMoves.{AfterMoveIf, AreMade};
+ghost use Rattle.zoom_sim.specs.RunMade.{RoundStep, GoOnStep, FinishStep, MovesFirst};
 
 use crate::channels::Channel;
 use crate::drives::{drive_all, end_inputs, stop_all};
@@ -85,6 +86,8 @@ fn go_round<W: Channel>(
     ensures goes { OnOk result (AfterMoves meta.old meta.new peers.old peers.new) }
     ensures rounds { W.sure ≡ true
         → IfOk result (λ moved. AfterSoundRound moved meta.old meta.new peers.old peers.new) }
+    ensures own { IfOk result (λ moved. RoundStep W.carries_to W.carries_from W.fails moved
+        channel.old channel.new meta.old meta.new peers.old peers.new) }
     ensures size { length meta.new.pool.connections ≡ length meta.old.pool.connections }
 {
     one_transcript();
@@ -102,6 +105,8 @@ fn go_on<W: Channel>(peers: &mut [Peer], meta: &mut Meta, channel: &mut W) -> Re
     requires equal { length peers.old ≡ length meta.old.pool.connections }
     ensures goes { OnOk result (AfterMoves meta.old meta.new peers.old peers.new) }
     ensures grows { W.sure ≡ true → OnOk result (AfterRoundOrEnd meta.old meta.new peers.old peers.new) }
+    ensures own { OnOk result (GoOnStep W.carries_to W.carries_from W.fails
+        channel.old channel.new meta.old meta.new peers.old peers.new) }
     ensures size { length meta.new.pool.connections ≡ length meta.old.pool.connections }
 {
     exchange_laws();
@@ -122,6 +127,8 @@ fn finish<W: Channel>(
     requires equal { length peers.old ≡ length meta.old.pool.connections }
     ensures ends { OnOk result (AfterAllRounds meta.old meta.new peers.old) }
     ensures whole { W.sure ≡ true → OnOk result (AfterAllSoundRounds meta.old meta.new peers.old) }
+    ensures own { OnOk result (FinishStep W.carries_to W.carries_from W.fails
+        channel.old channel.new meta.old meta.new peers.old peers.new) }
     ensures size { length meta.new.pool.connections ≡ length meta.old.pool.connections }
 {
     one_transcript();
@@ -150,7 +157,7 @@ pub(crate) fn carry_out<W: Channel>(
     // over any channel
     ensures ends { OnOk result (AfterAllRounds meta.old meta.new peers.old) }
     ensures moved { OnOk result (MovesFirst W.carries_to W.carries_from W.fails moves.now
-        channel.old meta.old meta.new peers.old) }
+        channel.old channel.new meta.old meta.new peers.old peers.new) }
     // over a sure channel
     ensures whole { W.sure ≡ true → OnOk result ((questions : List Question) (s : MetaSettings)
         (targets : List TargetState) → MetaAfter questions s [] meta.old → ArePeersOf targets peers.old

@@ -5,6 +5,7 @@ ghost use Rattle.zoom_questions.specs.Askable.{AreFit, AreAskable};
 ghost use Rattle.zoom_questions.specs.NewTargets.{AreNew};
 ghost use Rattle.zoom_sim.specs.Run.{IsRun};
 ghost use Rattle.zoom_sim.specs.RunRounds.{IsCompleteRun};
+ghost use Rattle.zoom_sim.specs.RunMade.{IsMovedRun, IsMovedRunInMemory};
 ghost use Rattle.zoom_sim.specs.RunCatalogue.{AreAnswerable, IsFaithfulRun, IsBroughtList};
 
 use crate::channels::{Channel, InMemory};
@@ -14,6 +15,7 @@ use crate::rounds::carry_out;
 use std::alloc::{AllocError, Global};
 use zber::Seq;
 use zknow::{Mode, Names, print_list};
+use zoom_pool::laws::one_transcript;
 use zoom_pool::{Meta, MetaSettings, Move, Question};
 use ztarget::Target;
 
@@ -29,16 +31,18 @@ use ztarget::Target;
 ///
 /// Then come rounds over all connections. A round carries all octets and releases all replies in order. If a round
 /// carried and released nothing, the input of each connection that is not finished ends. If a target stopped, the input
-/// of its connection ends once all its octets are carried. If the channel failed for a connection, it is stopped.
+/// of its connection ends once all its octets are carried. If the channel failed for a connection, it is stopped. No
+/// connection is stopped for another reason, unless 2^64 - 1 rounds were made.
 ///
 /// If the channel is sure to carry each piece, each connection has had a complete exchange with its target at the end.
 /// It received exactly the replies that the target owes to its requests, each once, in some order. The exception is a
 /// connection to whose requests the target owes a reply of more than 2,097,152 octets, the most of a message. It is
 /// Failed for `Ended`.
 ///
-/// A question is answerable if its search can be sent or was not skipped, each record that is due fits, and the text of
-/// a fault that its search meets has at most 2,000,000 octets. Its connection is then Closed, and exactly the facts are
-/// known of its target that it brings from the target's databases.
+/// A question is answerable if its search can be sent or was not skipped, and each record that is due fits. If its
+/// target does not support the search, the response has at most 2,097,152 octets, as it has if the text that says why
+/// has at most 2,000,000. The connection of an answerable question is then Closed, and exactly the facts are known of
+/// its target that it brings from the target's databases.
 ///
 /// Requires fewer than 2^32 questions that can be asked, settings that fit, and as many targets as questions. Each
 /// target must have received nothing. Returns `AllocError` only if no memory is found.
@@ -59,6 +63,8 @@ pub fn run_over<W: Channel>(
     requires equal { length targets.items ≡ length questions.items }
     // over any channel
     ensures is_run { IfOk result (λ meta. IsRun questions.items settings targets.items meta) }
+    ensures moved { IfOk result (λ meta. IsMovedRun W.carries_to W.carries_from W.fails
+        questions.items settings targets.items moves.now channel.old channel.new meta) }
     // over a sure channel
     ensures whole { W.sure ≡ true
         → IfOk result (λ meta. IsCompleteRun questions.items settings targets.items meta) }
@@ -71,6 +77,7 @@ pub fn run_over<W: Channel>(
     let mut peers = peers_of(alloc, targets)?;
     carry_out(&mut peers, &mut meta, channel, moves)?;
     run_law();
+    one_transcript();
     Ok(meta)
 }
 
@@ -101,6 +108,8 @@ pub fn run_world(
     requires equal { length targets.items ≡ length questions.items }
     // the run
     ensures is_run { IfOk result (λ meta. IsRun questions.items settings targets.items meta) }
+    ensures moved { IfOk result
+        (λ meta. IsMovedRunInMemory questions.items settings targets.items moves.now meta) }
     ensures whole { IfOk result (λ meta. IsCompleteRun questions.items settings targets.items meta) }
     ensures brings { IfOk result (λ meta. IsFaithfulRun questions.items targets.items meta) }
     ensures size { IfOk result (λ meta. length meta.pool.connections ≡ length questions.items) }

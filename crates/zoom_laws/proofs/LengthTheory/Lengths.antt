@@ -33,7 +33,7 @@ use Rattle.ztarget.specs.Faults as faults
 use Rattle.ztarget.specs.Laws.{size_of_all}
 use Rattle.ztarget.specs.Positions.{ranges_of, are_in_set, at_positions}
 use Rattle.ztarget.specs.Replies.{OwedReply, owed, replies, association_after, owed_to_search_unless}
-use Rattle.ztarget.specs.Responding.{due_count, search_records, search_fault, name_fault, kept_fault, ranges_fault, composition_fault, range_fault, present_fault, present_records, present_unless, presented}
+use Rattle.ztarget.specs.Responding.{due_count, search_records, search_failed, search_fault, name_fault, kept_fault, ranges_fault, composition_fault, range_fault, present_fault, present_records, present_unless, presented}
 use Rattle.ztarget.specs.Searching.{Found}
 use Rattle.ztarget.specs.Showing.{size_of, shown_record, records_held}
 use Rattle.ztarget.specs.Standing.{Terms, Open, NamedSet, Association, set_named}
@@ -46,7 +46,7 @@ use Rattle.zoom_pool.specs.Steering.{Errand, IsCallOf, IsSteered, ask_of, errand
 use Rattle.zoom_pool.proofs.MetaLaws.{driver_of}
 use Rattle.zoom_laws.specs.Accord.{requests}
 use Rattle.zoom_laws.specs.Catalogue.{size_given, entries_for, positions_due}
-use Rattle.zoom_laws.specs.Lengths.{HasShortRecords, HasShortFault, ShortRepliesLaw}
+use Rattle.zoom_laws.specs.Lengths.{HasShortRecords, fault_reply, HasShortFault, ShortRepliesLaw, ShortTextLaw}
 use Rattle.zoom_laws.proofs.AccordTheory.Members.{in_flat}
 use Rattle.zoom_laws.proofs.CatalogueTheory.Members.{of_map}
 use Rattle.zoom_laws.proofs.CatalogueTheory.Owing.{IsAnswer, answered}
@@ -102,17 +102,36 @@ present_within three r count =
     (ranges_within three r.additional_ranges)
     (within_either 2000000 composed ranged (composition_within r.record_composition) (range_within count (ranges_of r)))
 
-search_within : (databases : List Database) (ask : Ask) (named : Bool) (op set : ℕ) (terms : Terms)
-    (sets : List NamedSet) → IsWithinText 2000000 (match_fault databases ask.databases ask.query)
-    → IsWithinText 2000000 (search_fault databases sets terms (search_value named op set ask) (Rpn ask.query))
-search_within databases ask named op set terms sets h =
+-- the response that has this fault, if there is one, is no longer than a message may be
+abbrev IsBrief : Question → Option Bib1Fault → Type 0
+IsBrief q None = Unit {0}
+IsBrief q (Some reason) = IsShort (fault_reply q reason)
+
+brief_either : (q : Question) (a b : Option Bib1Fault) → IsBrief q a → IsBrief q b → IsBrief q (first_of_faults a b)
+brief_either q None b h l = l
+brief_either q (Some reason) b h l = h
+
+text_brief : (q : Question) (o : Option Bib1Fault) → IsWithinText 2000000 o → IsBrief q o
+text_brief q None h = tt
+text_brief q (Some reason) h = failed_short (search_value true 1 1 (ask_of q)) (omega arith) reason h
+
+search_brief : (databases : List Database) (q : Question) (named : Bool) (op set : ℕ) (terms : Terms)
+    (sets : List NamedSet) → IsBrief q (match_fault databases q.databases q.query)
+    → IsBrief q (search_fault databases sets terms (search_value named op set (ask_of q)) (Rpn q.query))
+search_brief databases q named op set terms sets h =
     let name = set_name named set in
     let few : length name ≤ 2000000 = omega (arith, name_few named set) in
     let kept = kept_fault true name (set_named sets name) in
-    let matched = match_fault databases ask.databases ask.query in
-    within_either 2000000 (name_fault terms.named name) (first_of_faults kept matched)
-    (within_if 2000000 (terms.named || bytes_eq name (codes "default")) (faults.fault 22 name) few)
-    (within_either 2000000 kept matched (kept_within 2000000 name (set_named sets name)) h)
+    let matched = match_fault databases q.databases q.query in
+    brief_either q (name_fault terms.named name) (first_of_faults kept matched)
+    (text_brief q (name_fault terms.named name)
+    (within_if 2000000 (terms.named || bytes_eq name (codes "default")) (faults.fault 22 name) few))
+    (brief_either q kept matched (text_brief q kept (kept_within 2000000 name (set_named sets name))) h)
+
+-- a response with a short text is short
+pub text_law : ShortTextLaw
+text_law q databases settings small reason takes is =
+    failed_short (search_value true 1 1 (ask_of q)) (omega arith) reason (small reason takes is)
 
 -- ---- the replies
 
@@ -135,23 +154,23 @@ module _ (databases : List Database) (offers : TargetSettings) (q : Question)
   abbrev fault : Option Bib1Fault
   fault = match_fault databases q.databases q.query
 
-  -- the search's fault has a short text
-  fault_within : offers.refuse ≡ false → (o : Option Bib1Fault) → fault ≡ o → IsWithinText 2000000 o
-  fault_within takes None e = tt
-  fault_within takes (Some reason) e = brief reason takes e
+  -- the response that has the search's fault is short
+  fault_brief : offers.refuse ≡ false → (o : Option Bib1Fault) → fault ≡ o → IsBrief q o
+  fault_brief takes None e = tt
+  fault_brief takes (Some reason) e = brief reason takes e
 
   search_short : (named : Bool) (op set : ℕ) (terms : Terms) (sets : List NamedSet) (found : List Found)
-      (o : Option Bib1Fault) → IsWithinText 2000000 o
+      (o : Option Bib1Fault) → op ≡ 1 → IsBrief q o
       → IsShort (owed_to_search_unless terms sets (search_value named op set (ask_of q)) found o).reply
-  search_short named op set terms sets found None h =
+  search_short named op set terms sets found None is h =
       let r = search_value named op set (ask_of q) in
       let none = none_due named op set q (length found) in
       let nothing : size_of_all (search_records terms.size r found) ≡ 0 =
       ap (λ n. size_of_all (records_held terms.size (map (shown_record terms.size q.syntax) (take n found)))) none in
       found_short r (omega arith) (length found) (due_count r (length found)) (search_records terms.size r found)
       (omega (arith, nothing))
-  search_short named op set terms sets found (Some reason) h =
-      failed_short (search_value named op set (ask_of q)) (omega arith) reason h
+  search_short named op set terms sets found (Some reason) is h =
+      subst (λ n. IsShort (apdus.SearchResponse (search_failed (search_value named n set (ask_of q)) reason))) (sym is) h
 
   module _ (op : ℕ) (named : Bool) (first : Range) (others : List Range) (s : Searched)
       (syntax : s.syntax ≡ q.syntax)
@@ -232,17 +251,17 @@ module _ (databases : List Database) (offers : TargetSettings) (q : Question)
       terms_at : (terms : Terms) → before.state ≡ Open terms → IsOnTerms databases offers (ask_of q) (Open terms)
       terms_at terms e = subst (IsOnTerms databases offers (ask_of q)) e on.state
 
-      to_search : (op set : ℕ) (ask : Ask) → ask ≡ ask_of q → v ≡ search_request asking.force.named op set ask
-          → IsShort a.reply
-      to_search op set ask of is =
+      to_search : (op set : ℕ) (ask : Ask) → op ≡ 1 → ask ≡ ask_of q
+          → v ≡ search_request asking.force.named op set ask → IsShort a.reply
+      to_search op set ask first of is =
           let named = asking.force.named in
           let r = search_value named op set (ask_of q) in
           let g = given (apdus.SearchRequest r) (is ∙ ap (search_request named op set) of) in
           let takes = (terms_at g.0 g.1).0 in
           subst (λ (b : OwedReply). IsShort b.reply) (sym g.2)
           (search_short named op set g.0 before.sets entries
-          (search_fault databases before.sets g.0 r (Rpn q.query))
-          (search_within databases (ask_of q) named op set g.0 before.sets (fault_within takes fault refl)))
+          (search_fault databases before.sets g.0 r (Rpn q.query)) first
+          (search_brief databases q named op set g.0 before.sets (fault_brief takes fault refl)))
 
       to_present : (op set : ℕ) (ranges : List Range) → IsRequest asking (calls.Present op set ranges) v
           → IsPlanned (positions q.wanted) s.step (replies_in (events_of (ask_of q) settings log))
@@ -270,7 +289,7 @@ module _ (databases : List Database) (offers : TargetSettings) (q : Question)
           let g = given (apdus.InitRequest (init_value asking.settings)) is in
           subst (λ (b : OwedReply). IsShort b.reply) (sym g.1)
           (init_short offers (init_value asking.settings) (omega arith))
-      to_call (calls.Search op set ask) is of due = to_search op set ask of.1 is
+      to_call (calls.Search op set ask) is of due = to_search op set ask due.0 of.1 is
       to_call (calls.Present op set ranges) is of due = to_present op set ranges is due.1.0
       to_call calls.Close is of due =
           let g = given (apdus.Close close_value) is in

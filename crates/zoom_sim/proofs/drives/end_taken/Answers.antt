@@ -1,7 +1,6 @@
 use Rattle.zoom_pool.specs.Transcripts.{InputEnded}
 use Rattle.zoom_sim.proofs.RunSilentSteps.{goes_trans, recorded_silent}
 use Rattle.zoom_sim.proofs.RunTakes.{ended_take}
-use Rattle.zoom_sim.proofs.RunMoves.{driven_trans, driven_event}
 use Rattle.zoom_sim.proofs.drives.end_taken.Goals as goal
 
 pub returns-clause-on : goal.returns-clause-on
@@ -16,6 +15,8 @@ returns-clause-ends c =
     c.in_ok-take_one.ensures.at
 
 pub returns-clause-own : goal.returns-clause-own
-returns-clause-own c =
-    driven_trans c.args.c c.args.meta.now c.end.new.self c.take_one.new.meta
-    (driven_event c.args.c InputEnded c.args.meta.now c.end.new.self tt c.end.ensures.after) c.in_ok-take_one.ensures.own
+returns-clause-own c = record {
+  ended = c.end.new.self;
+  ends = c.end.ensures.after;
+  driven = c.in_ok-take_one.ensures.own;
+}

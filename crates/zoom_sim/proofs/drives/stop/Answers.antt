@@ -1,4 +1,4 @@
-use Rattle.std.proofs.Common.{inr, subst}
+use Rattle.std.proofs.Common.{inl, inr, refl, subst}
 use Rattle.zoom_pool.specs.declared.state.Reason.TheVariants as reasons
 use Rattle.zoom_pool.specs.Transcripts.{Stopped}
 use Rattle.zoom_pool.specs.Metas.{IsTranscriptValue}
@@ -18,3 +18,13 @@ returns-clause-unfinished_only c =
     adds_spares c.args.c c.args.meta.now c.stop.new.self
     (subst (λ b. IsTranscriptValue c.args.c c.args.meta.now is_over b) c.if-is_over.false c.is_over.ensures)
     (recorded_adds c.args.c (Stopped reasons.Turns) c.args.meta.now c.stop.new.self c.stop.ensures.after)
+
+pub returns-then-is_over-clause-own : goal.returns-then-is_over-clause-own
+returns-then-is_over-clause-own c =
+    inl (refl, subst (λ b. IsTranscriptValue c.args.c c.args.meta.now is_over b) c.if-is_over.true c.is_over.ensures)
+
+pub returns-clause-own : goal.returns-clause-own
+returns-clause-own c = inr (
+  c.stop.ensures.after,
+  subst (λ b. IsTranscriptValue c.args.c c.args.meta.now is_over b) c.if-is_over.false c.is_over.ensures,
+)

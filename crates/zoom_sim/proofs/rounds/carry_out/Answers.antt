@@ -1,6 +1,7 @@
 use Rattle.std.proofs.Common.{subst}
 use Rattle.std.proofs.lemmas.Result.{IfOk-weaker}
 use Rattle.zoom_sim.specs.RunSound.{AreStarted}
+use Rattle.zoom_sim.proofs.RunMade.{moves_first}
 use Rattle.zoom_sim.proofs.RunRounds.{started_fine}
 use Rattle.zoom_sim.proofs.RunWorlds.{goes_world, peers_size, world_ends, world_trans}
 use Rattle.zoom_sim.proofs.rounds.carry_out.Goals as goal
@@ -21,12 +22,8 @@ returns-clause-whole g c = λ sure. IfOk-weaker c.finish.result _ _ (λ _ whole 
     (c.finish.ensures.whole sure)
 
 pub returns-clause-moved : goal.returns-clause-moved
-returns-clause-moved g c = IfOk-weaker c.finish.result _ _ (λ _ f. record {
-  begun = c.drive_all.new.meta;
-  later = c.make_moves.new.channel;
-  made = c.make_moves.new.meta;
-  peers = c.make_moves.new.peers;
-  driven = c.in_ok-drive_all.ensures.on;
-  moved = c.in_ok-make_moves.ensures.moved;
-  rounds = f;
-}) c.finish.ensures.ends
+returns-clause-moved g c =
+    moves_first g.W.Channel.carries_to g.W.Channel.carries_from g.W.Channel.fails c.finish.result c.args.moves.now
+    c.args.channel.now c.make_moves.new.channel c.finish.new.channel c.args.meta.now c.drive_all.new.meta
+    c.make_moves.new.meta c.finish.new.meta c.args.peers.now c.make_moves.new.peers c.finish.new.peers
+    c.in_ok-drive_all.ensures.own c.in_ok-make_moves.ensures.moved c.finish.ensures.ends c.finish.ensures.own

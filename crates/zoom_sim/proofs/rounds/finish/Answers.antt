@@ -1,6 +1,7 @@
-use Rattle.std.proofs.Common.{true, ◌∙◌, subst, refl, rules, arith}
+use Rattle.std.proofs.Common.{true, ◌≤◌, ◌∙◌, inl, inr, subst, refl, rules, arith}
 use Rattle.zoom_pool.specs.Metas.{IsFinishedUpTo}
 use Rattle.zoom_pool.proofs.Advancing.{finished_after}
+use Rattle.zoom_sim.specs.RunMade.{no_round, one_round, most_rounds}
 use Rattle.zoom_sim.proofs.RunStops.{finished_halts}
 use Rattle.zoom_sim.proofs.RunUnfinished.{spares_trans}
 use Rattle.zoom_sim.proofs.RunFinishes.{grown_more, finished_whole, most_whole}
@@ -8,7 +9,7 @@ use Rattle.zoom_sim.proofs.RunWorlds.{same_world, goes_world, halts_ends, world_
 use Rattle.zoom_sim.proofs.rounds.finish.Goals as goal
 
 pub loop-init : goal.loop-init
-loop-init g c = (same_world c.args.meta.now c.args.peers.now, refl, search rules)
+loop-init g c = (same_world c.args.meta.now c.args.peers.now, refl, search rules, no_round)
 
 pub returns-then-finished-clause-ends : goal.returns-then-finished-clause-ends
 returns-then-finished-clause-ends g c =
@@ -30,6 +31,8 @@ loop-preserved g c = (
   c.in_ok-go_on.ensures.size ∙ c.loop.invariant.1,
   λ sure. grown_more c.loop.counter c.args.meta.now c.loop.meta c.go_on.new.meta c.args.peers.now c.loop.peers
       c.go_on.new.peers (c.loop.invariant.2 sure) (c.in_ok-go_on.ensures.grows sure),
+  one_round c.loop.invariant.3 (subst (IsFinishedUpTo c.loop.meta) c.if-finished.false c.finished.ensures)
+      c.in_ok-go_on.ensures.own,
 )
 
 pub returns-clause-ends : goal.returns-clause-ends
@@ -46,3 +49,26 @@ returns-clause-whole g c = λ sure.
     c.stop_all.new.meta c.args.peers.now c.loop.peers (c.loop.invariant.2 sure) (omega (arith, c.loop-test.false))
     (spares_trans c.loop.meta c.end_inputs.new.meta c.stop_all.new.meta
     c.in_ok-end_inputs.ensures.unfinished_only c.stop_all.ensures.unfinished_only)
+
+pub returns-then-finished-clause-own : goal.returns-then-finished-clause-own
+returns-then-finished-clause-own g c = record {
+  count = c.loop.counter;
+  meta = c.loop.meta;
+  rounds = c.loop.invariant.3;
+  last = inl (refl, subst (IsFinishedUpTo c.loop.meta) c.if-finished.true c.finished.ensures);
+}
+
+pub returns-clause-own : goal.returns-clause-own
+returns-clause-own g c =
+    let most : most_rounds ≤ c.loop.counter = omega (arith, c.loop-test.false) in
+    record {
+      count = c.loop.counter;
+      meta = c.loop.meta;
+      rounds = c.loop.invariant.3;
+      last = inr (record {
+        most = most;
+        ended = c.end_inputs.new.meta;
+        ends = c.in_ok-end_inputs.ensures.own;
+        stops = c.stop_all.ensures.own;
+      });
+    }

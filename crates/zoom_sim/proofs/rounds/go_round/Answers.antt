@@ -1,11 +1,13 @@
 use Rattle.std.proofs.Common.{◌∙◌, refl, rules, arith}
 use Rattle.std.specs.Prelude.{◌||◌}
+use Rattle.zoom_sim.specs.RunMade.{none_rounded, one_rounded}
+use Rattle.zoom_sim.proofs.RunMade.{round_made}
 use Rattle.zoom_sim.proofs.RunRounds.{round_all, round_more, or_left, or_right}
 use Rattle.zoom_sim.proofs.RunWorlds.{same_world, step_world, world_trans}
 use Rattle.zoom_sim.proofs.rounds.go_round.Goals as goal
 
 pub loop-c-init : goal.loop-c-init
-loop-c-init g c = (same_world c.args.meta.now c.args.peers.now, refl, search rules)
+loop-c-init g c = (same_world c.args.meta.now c.args.peers.now, refl, search rules, none_rounded)
 
 pub loop-c-preserved : goal.loop-c-preserved
 loop-c-preserved g c = (
@@ -18,6 +20,9 @@ loop-c-preserved g c = (
       c.loop-c.peers c.loop-c.c c.index-peers-c.result c.go_round.new.self (omega arith)
       (or_right c.loop-c.any c.in_ok-moved.moved) (or_left c.loop-c.any c.in_ok-moved.moved)
       (c.loop-c.invariant.2 sure) (c.in_ok-moved.ensures.rounds sure),
+  one_rounded c.loop-c.invariant.3 (round_made g.W.Channel.carries_to g.W.Channel.carries_from g.W.Channel.fails
+      c.loop-c.c c.in_ok-moved.moved c.loop-c.channel c.go_round.new.channel c.loop-c.meta c.go_round.new.meta
+      c.loop-c.peers c.index-peers-c.result c.go_round.new.self (omega arith) c.in_ok-moved.ensures.moved),
 )
 
 pub returns-clause-rounds : goal.returns-clause-rounds

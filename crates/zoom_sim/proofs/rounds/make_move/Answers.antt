@@ -19,7 +19,8 @@ returns-clause-stays g c = λ sure.
 
 pub returns-clause-moved : goal.returns-clause-moved
 returns-clause-moved g c =
-    move_made g.W.Channel.carries_to g.W.Channel.carries_from g.W.Channel.fails c.args.step c.connection_of-c.result
+    move_made g.W.Channel.carries_to g.W.Channel.carries_from g.W.Channel.fails c.in_ok-make.field-0 c.args.step
+    c.connection_of-c.result
     c.connection_of-c.ensures c.args.channel.now c.make.new.channel c.args.meta.now c.make.new.meta c.args.peers.now
     c.index-peers-c.result c.make.new.self c.if-c-peers.false c.in_ok-make.ensures.moved
 

@@ -1,7 +1,7 @@
 use Rattle.zoom_sim.proofs.RunSilentSteps.{goes_trans}
 use Rattle.zoom_sim.proofs.RunCarries.{carries_trans, goes_carries}
 use Rattle.zoom_sim.proofs.RunInputs.{taken_steps, taken_ends}
-use Rattle.zoom_sim.proofs.RunMoves.{driven_trans, carried_from}
+use Rattle.zoom_sim.proofs.RunMoves.{carried_from}
 use Rattle.zoom_sim.proofs.peers.Peer.carry_from.Goals as goal
 
 pub returns-clause-carries : goal.returns-clause-carries
@@ -29,8 +29,7 @@ returns-clause-ends g c = λ sure most.
 
 pub returns-clause-carried : goal.returns-clause-carried
 returns-clause-carried g c =
-    carried_from g.W.Channel.carries_from g.W.Channel.fails c.args.c c.args.k c.failure.result c.args.channel.now
-    c.feed_from.new.channel c.args.meta.now c.feed_from.new.meta c.stop_for.new.meta c.end_where_stopped.new.meta
-    c.args.self.now c.feed_from.new.self c.in_ok-carried.ensures.carried c.failure.ensures.fails c.stop_for.ensures.stops
-    (driven_trans c.args.c c.stop_for.new.meta c.take_all.new.meta c.end_where_stopped.new.meta
-    c.in_ok-take_all.ensures.own c.in_ok-end_where_stopped.ensures.own)
+    carried_from g.W.Channel.carries_from g.W.Channel.fails c.in_ok-carried.carried c.args.c c.args.k c.failure.result
+    c.args.channel.now c.feed_from.new.channel c.args.meta.now c.feed_from.new.meta c.stop_for.new.meta
+    c.take_all.new.meta c.end_where_stopped.new.meta c.args.self.now c.feed_from.new.self c.in_ok-carried.ensures.carried
+    c.failure.ensures.fails c.stop_for.ensures.stops c.in_ok-take_all.ensures.own c.in_ok-end_where_stopped.ensures.own

@@ -28,7 +28,11 @@ returns-clause-moved g c = record {
   meta = c.carry_to.new.meta;
   fed = c.carry_to.new.self;
   replied = c.release_all.new.self;
+  some_sent = c.in_ok-sent.sent;
+  some_released = c.in_ok-released.released;
+  some_came = c.in_ok-came.came;
   sent = c.in_ok-sent.ensures.carried;
   released = c.in_ok-released.ensures.all;
   came = c.in_ok-came.ensures.carried;
+  some = refl;
 }

@@ -1,5 +1,6 @@
 use Rattle.std.specs.declared.alloc.AllocError.{AllocError}
 use Rattle.std.proofs.Common.{◌≤◌, ◌-◌, ◌^◌, true, Ok, refl, subst, arith}
+use Rattle.std.proofs.lemmas.Bool.Decides.{nat_tests}
 use Rattle.zoom_pool.specs.Hosts.{ReleaseResult}
 use Rattle.zoom_sim.specs.RunPeers.{ReleaseAllStep}
 use Rattle.zoom_sim.proofs.RunCarries.{releases_none, releases_trans, released}
@@ -8,7 +9,7 @@ use Rattle.zoom_sim.proofs.RunMoves.{released_more, released_last, released_most
 use Rattle.zoom_sim.proofs.peers.Peer.release_all.Goals as goal
 
 pub loop-count-init : goal.loop-count-init
-loop-count-init c = (releases_none c.args.self.now, putting_none c.args.self.now, refl)
+loop-count-init c = (releases_none c.args.self.now, putting_none c.args.self.now, refl, refl)
 
 pub loop-count-preserved : goal.loop-count-preserved
 loop-count-preserved c =
@@ -22,6 +23,7 @@ loop-count-preserved c =
           (released AllocError 0 true at.self host put),
       putting_more laws.one_served laws.released at._count 0 c.args.self.now at.self host at.invariant.1 put.0 put.1,
       released_more AllocError at._count c.args.self.now at.self host at.invariant.2 put,
+      grind (arith, nat_tests),
     )
 
 pub returns-then-not-branch-clause-releases : goal.returns-then-not-branch-clause-releases
@@ -61,11 +63,13 @@ returns-clause-empties c =
 pub returns-then-not-branch-clause-all : goal.returns-then-not-branch-clause-all
 returns-then-not-branch-clause-all c =
     let at = c.loop-count in
-    released_last AllocError at._count c.args.self.now at.self c.release.new.self at.invariant.2
+    released_last AllocError at.released at._count c.args.self.now at.self c.release.new.self at.invariant.3
+    at.invariant.2
     (subst (λ b. ReleaseResult {E = AllocError} 0 (Ok b) at.self.host c.release.new.self) c.if-not-branch.true
     c.in_ok-release.ensures.releases)
 
 pub returns-clause-all : goal.returns-clause-all
 returns-clause-all c =
     let most : 2 ^ 64 - 1 ≤ c.loop-count._count = omega (arith, c.loop-count-test.false) in
-    released_most c.loop-count._count c.args.self.now c.loop-count.self most c.loop-count.invariant.2
+    released_most c.loop-count.released c.loop-count._count c.args.self.now c.loop-count.self c.loop-count.invariant.3
+    most c.loop-count.invariant.2
