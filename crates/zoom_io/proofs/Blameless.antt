@@ -57,5 +57,5 @@ ended_soundly c false old new source left a e = a.1.failures
 -- Settling that went on wrote soundly.
 pub settled_soundly : (c : ℕ) (over : Bool) (old new : MetaLinks) (sink held : DeviceState)
     → AfterSettle c (Ok over) old new sink held → HasNoFailure sink held
-settled_soundly c true old new sink held a = (a sink).writer
-settled_soundly c false old new sink held a = (a sink).writer
+settled_soundly c true old new sink held a = (a sink).step.writer
+settled_soundly c false old new sink held a = (a sink).step.writer

@@ -1,5 +1,8 @@
+pub mod Going
+pub mod Completing
 pub mod Taking
 pub mod Sending
+pub mod Starving
 pub mod Devices
 pub mod Ending
 pub mod LastClose

@@ -1,29 +1,28 @@
 -- What making the due calls, and writing what waits, do to a talk; and talks that go on.
-use Rattle.std.proofs.Common.{◌≡◌, ◌∙◌, sym, ap, subst, ℕ, ◌<◌, false, List, [], ◌∷◌, ◌++◌, length, Result, Ok, Err, refl, append_assoc}
+use Rattle.std.proofs.Common.{◌≡◌, ◌∙◌, ◌⊎◌, inl, inr, sym, ap, subst, ℕ, suc, ◌+◌, ◌-◌, ◌^◌, ◌<◌, ◌≤◌, false, List, [], ◌∷◌, ◌++◌, length, Result, Ok, Err, refl, append_assoc, arith}
 use Rattle.std.specs.Io.KnownBytes.{Appends}
 use Rattle.std.proofs.KnownBytes.{Appends-trans, Appends-nil, Consumes-nil}
 use Rattle.zorigin.specs.Standings.{Call}
 use Rattle.zoom_questions.specs.declared.question.Question.{Question}
 use Rattle.zoom_questions.specs.declared.question.MetaSettings.{MetaSettings}
 use Rattle.zoom_pool.specs.declared.state.Reason.TheVariants as reasons
-use Rattle.zoom_pool.specs.Transcripts.{IsTranscript, InputEnded, HandedOut, Stopped, past_of, given, is_lost, sent}
+use Rattle.zoom_pool.specs.Transcripts.{IsTranscript, HandedOut, Stopped, past_of, given, is_lost, sent}
 use Rattle.zoom_pool.specs.History.{History, events_on}
 use Rattle.zoom_pool.specs.Laws.{OneTranscript}
-use Rattle.zoom_pool.specs.Metas.{MetaLinks, MetaAfterUpTo, MetaRecorded, MetaIncompleteTake, DriveResult, CompleteDrive, Progress, call_events, settings_of}
+use Rattle.zoom_pool.specs.Metas.{MetaLinks, MetaAfterUpTo, MetaRecorded, DriveResult, CompleteDrive, call_events, settings_of}
 use Rattle.zoom_io.specs.Devices.{DeviceState, HasAppendedFront, HasFailed}
 use Rattle.zoom_io.specs.declared.outgoing.PushError.{PushError}
 use Rattle.zoom_io.specs.declared.outgoing.PushError.TheVariants as pushes
 use Rattle.zoom_io.specs.declared.talk_steps.Receipt.{Receipt}
-use Rattle.zoom_io.specs.declared.talk_steps.Receipt.TheVariants as receipts
 use Rattle.zoom_io.specs.Pushing.{MetaWriteFailed, AfterPush}
-use Rattle.zoom_io.specs.TalkTraces.{Stage, Due, Listening, Waiting, Over, Talk, TalkStep, HaltStep, IsAllHandedOut, beginning, due_sent, same}
+use Rattle.zoom_io.specs.TalkTraces.{Stage, Due, Listening, Talk, TalkStep, HaltStep, IsAllHandedOut, IsGoingBefore, beginning, due_sent, takes, same}
 use Rattle.zoom_pool.specs.Links.{waiting_at, waiting_in}
 use Rattle.zoom_pool.proofs.Metas.{slice_some}
-use Rattle.zoom_pool.proofs.MetaTakes.{more_partial}
-use Rattle.zoom_pool.proofs.Pools.{only_same, only_other}
-use Rattle.zoom_io.specs.Talking.{AfterSettle}
-use Rattle.zoom_io.specs.TalkSteps.{WriteFailureStep, HaltStepAlone, AfterSendDue, AfterTakeMessage, AfterSendAndTake}
-use Rattle.zoom_io.proofs.Apart.{none_both, others_made, others_follow}
+use Rattle.zoom_pool.proofs.Pools.{only_same}
+use Rattle.zoom_io.specs.Talking.{SettleStep, AfterSettle}
+use Rattle.zoom_io.specs.TalkSteps.{WriteFailureStep, SendStep, TakeStep, stage_after, AfterSendDue, AfterTakeMessage, AfterSendAndTake}
+use Rattle.zoom_io.proofs.Going.{takes_called}
+use Rattle.zoom_io.proofs.Starving.{halts_unhanded, halts_after, halted_many}
 
 -- ---- sending
 
@@ -56,28 +55,32 @@ module _ (hearing : OneTranscript) (E : Type 0) (c n : ℕ) (old mid new : MetaL
 
     pub sent_on : (sink held : DeviceState) → MetaRecorded c (HandedOut octets) mid new
         → Appends sink.octets held.octets octets → held.failures ≡ sink.failures
-        → (left : DeviceState) → TalkStep c Due Listening same old new left left sink held
+        → (left : DeviceState) → SendStep c old new left sink held
     sent_on sink held recorded appended sound left = record {
-      on = λ q s partial h reads source first t.
-          let d : CompleteDrive q s partial c (t.more ++ h) n mid = drove q s partial (t.more ++ h) t.known.0 in
-          let calls = d.progress.calls in
-          let all = all_handed_out hearing q s partial c (call_events c calls ++ (t.more ++ h)) mid lt d.progress.after in
-          record {
-            more = (c, HandedOut octets) ∷ (call_events c calls ++ t.more);
-            read = t.read;
-            written = t.written ++ octets;
-            trace = due_sent calls octets t.trace
-                (λ question p asks transcript. (d.rests question p asks transcript, d.tried p transcript)) all;
-            known = (
-              spoken q s partial h t.more calls octets
-                  (recorded q s partial (call_events c calls ++ (t.more ++ h)) d.progress.after),
-              tt,
-            );
-            consumed = t.consumed;
-            appended = Appends-trans first.octets sink.octets held.octets t.written octets t.appended appended;
-          };
-      reader = refl;
-      writer = sound;
+      step = record {
+        on = λ q s partial h reads source first t.
+            let d : CompleteDrive q s partial c (t.more ++ h) n mid = drove q s partial (t.more ++ h) t.known.0 in
+            let calls = d.progress.calls in
+            let all = all_handed_out hearing q s partial c (call_events c calls ++ (t.more ++ h)) mid lt d.progress.after in
+            record {
+              more = (c, HandedOut octets) ∷ (call_events c calls ++ t.more);
+              read = t.read;
+              written = t.written ++ octets;
+              trace = due_sent calls octets t.trace
+                  (λ question p asks transcript. (d.rests question p asks transcript, d.tried p transcript)) all;
+              known = (
+                spoken q s partial h t.more calls octets
+                    (recorded q s partial (call_events c calls ++ (t.more ++ h)) d.progress.after),
+                tt,
+              );
+              consumed = t.consumed;
+              appended = Appends-trans first.octets sink.octets held.octets t.written octets t.appended appended;
+            };
+        reader = refl;
+        writer = sound;
+      };
+      taken = λ q s partial h reads source first t.
+          takes_called c (drove q s partial (t.more ++ h) t.known.0).progress.calls t.more;
     }
 
     pub sent_broken : (sink held : DeviceState) → MetaWriteFailed c octets mid new
@@ -105,66 +108,6 @@ module _ (hearing : OneTranscript) (E : Type 0) (c n : ℕ) (old mid new : MetaL
           };
       failed = failed;
     }
-
--- ---- no memory is found
-
--- Nothing was done.
-pub halts_same : (c : ℕ) (from : Stage) (old new : MetaLinks) → new ≡ old → HaltStepAlone c from old new
-halts_same c from old new e held q s partial h n source left sink t = record {
-  more = t.more;
-  others = λ i far. others_follow i t.trace far;
-  after = more_partial q s partial c (t.more ++ h) new (subst (MetaAfterUpTo q s partial (t.more ++ h)) (sym e) t.known.0);
-}
-
--- A take was not completed.
-pub halts_keeps : (c : ℕ) (from : Stage) (old new : MetaLinks) → MetaIncompleteTake c old new
-    → HaltStepAlone c from old new
-halts_keeps c from old new keeps held q s partial h n source left sink t = record {
-  more = t.more;
-  others = λ i far. others_follow i t.trace far;
-  after = keeps q s partial (t.more ++ h) t.known.0;
-}
-
--- A take after the end of the input was not completed.
-pub halts_ended : (c : ℕ) (from : Stage) (old mid new : MetaLinks) → MetaRecorded c InputEnded old mid
-    → MetaIncompleteTake c mid new → HaltStepAlone c from old new
-halts_ended c from old mid new recorded keeps held q s partial h n source left sink t = record {
-  more = (c, InputEnded) ∷ t.more;
-  others = λ i far. only_other c i InputEnded t.more far ∙ others_follow i t.trace far;
-  after = keeps q s partial ((c, InputEnded) ∷ (t.more ++ h)) (recorded q s partial (t.more ++ h) t.known.0);
-}
-
--- Calls were made.
-halts_made : (c : ℕ) (from : Stage) (old new : MetaLinks)
-    → ((q : List Question) (s : MetaSettings) (partial : List ℕ) (h : History) → MetaAfterUpTo q s partial h old → (m : ℕ) × Progress q s partial c h m new)
-    → HaltStepAlone c from old new
-halts_made c from old new drove held q s partial h n source left sink t =
-    let d = (drove q s partial (t.more ++ h) t.known.0).1 in
-    record {
-      more = call_events c d.calls ++ t.more;
-      others = λ i far.
-          none_both i (call_events c d.calls) t.more (others_made c i d.calls far) (others_follow i t.trace far);
-      after = more_partial q s partial c ((call_events c d.calls ++ t.more) ++ h) new
-          (subst (λ z. MetaAfterUpTo q s partial z new) (sym (append_assoc (call_events c d.calls) t.more h)) d.after);
-    }
-
--- Not all due calls were made.
-pub halts_driven : (E : Type 0) (e : E) (c : ℕ) (old new : MetaLinks) → DriveResult {E = E} c (Err e) old new
-    → HaltStepAlone c Due old new
-halts_driven E e c old new drove = halts_made c Due old new (λ q s partial h a. drove q s partial h a)
-
--- All due calls were made, and what waits was not handed out.
-halts_unsaid : (E : Type 0) (c n : ℕ) (old mid new : MetaLinks) → DriveResult {E = E} c (Ok n) old mid
-    → new ≡ mid → HaltStepAlone c Due old new
-halts_unsaid E c n old mid new drove e =
-    halts_made c Due old new
-    (λ q s partial h a. (n, subst (λ z. Progress q s partial c h n z) (sym e) (drove q s partial h a).progress))
-
--- The talk halts after steps that went on.
-pub halts_after : (c : ℕ) (from mid : Stage) (f : ℕ → ℕ) (a b d : MetaLinks) (k k2 : DeviceState)
-    → ((left : DeviceState) → TalkStep c from mid f a b left left k k2) → HaltStep c mid b d k2 → HaltStep c from a d k
-halts_after c from mid f a b d k k2 one off q s partial h n source left sink t =
-    off q s partial h (f n) source left sink ((one left).on q s partial h n source sink t)
 
 -- ---- one after the other
 
@@ -224,6 +167,102 @@ begun_on c n from to f a b d l l2 l3 k k2 k3 one two = record {
   writer = two.writer ∙ one.writer;
 }
 
+-- A take of the connection found no memory before the talk. Before the first read no take was made since, or one was,
+-- and has completed it.
+pub record Opened (c reads : ℕ) (old new : MetaLinks) (source left sink held : DeviceState) : Type 0 where
+  pub on : (q : List Question) (s : MetaSettings) (partial : List ℕ) (h : History) → MetaAfterUpTo q s (c ∷ partial) h old
+      → ((reads ≡ 0) × (t : Talk q s (c ∷ partial) c h reads Due new source left sink held) × (takes t.more ≡ 0))
+      ⊎ ((0 < reads) × Talk q s partial c h reads Due new source left sink held)
+
+pub opened : (c : ℕ) (m : MetaLinks) (source sink : DeviceState) → Opened c 0 m m source source sink sink
+opened c m source sink = record {
+  on = λ q s partial h a. inl (
+    refl,
+    record {
+      more = [];
+      read = [];
+      written = [];
+      trace = beginning;
+      known = (a, tt);
+      consumed = Consumes-nil source.octets;
+      appended = Appends-nil sink.octets;
+    },
+    refl,
+  );
+}
+
+-- The same, once a take has completed it.
+pub record Completed
+    (c reads : ℕ) (stage : Stage) (old new : MetaLinks) (source left sink held : DeviceState)
+    : Type 0 where
+  pub on : (q : List Question) (s : MetaSettings) (partial : List ℕ) (h : History) → MetaAfterUpTo q s (c ∷ partial) h old
+      → Talk q s partial c h reads stage new source left sink held
+
+-- ---- messages are taken
+
+-- n messages were taken. The first of them completes a take that found no memory before the talk.
+pub record Settling (c n : ℕ) (old new : MetaLinks) (left held then_held : DeviceState) : Type 0 where
+  pub step : TalkStep c Due Due same old new left left held then_held
+  pub taken : (q : List Question) (s : MetaSettings) (partial : List ℕ) (h : History) (reads : ℕ)
+      (source sink : DeviceState) (t : Talk q s partial c h reads Due old source left sink held)
+      → takes (step.on q s partial h reads source sink t).more ≡ n + takes t.more
+  pub completes : (q : List Question) (s : MetaSettings) (partial : List ℕ) (h : History) (reads : ℕ)
+      (source sink : DeviceState) (t : Talk q s (c ∷ partial) c h reads Due old source left sink held)
+      → takes t.more ≡ 0
+      → ((u : Talk q s (c ∷ partial) c h reads Due new source left sink then_held) × (takes u.more ≡ 0))
+      ⊎ Talk q s partial c h reads Due new source left sink then_held
+
+pub settles_none : (c : ℕ) (m : MetaLinks) (left held : DeviceState) → Settling c 0 m m left held held
+settles_none c m left held = record {
+  step = record { on = λ q s partial h reads source sink t. t; reader = refl; writer = refl };
+  taken = λ q s partial h reads source sink t. let e : takes t.more ≡ 0 + takes t.more = omega arith in e;
+  completes = λ q s partial h reads source sink t none. inl (t, none);
+}
+
+module _ (c n : ℕ) (old mid new : MetaLinks) (left k k2 k3 : DeviceState) (one : Settling c n old mid left k k2) where
+  -- One message more is taken.
+  pub settles_more : TakeStep c Due Due mid new left k2 k3 → Settling c (n + 1) old new left k k3
+  settles_more two = record {
+    step = record {
+      on = λ q s partial h reads source sink t.
+          two.step.on q s partial h reads source sink (one.step.on q s partial h reads source sink t);
+      reader = two.step.reader ∙ one.step.reader;
+      writer = two.step.writer ∙ one.step.writer;
+    };
+    taken = λ q s partial h reads source sink t.
+        counts (takes t.more) _ _ (one.taken q s partial h reads source sink t)
+        (two.taken q s partial h reads source sink (one.step.on q s partial h reads source sink t));
+    completes = λ q s partial h reads source sink t none.
+        by q s partial h reads source sink (one.completes q s partial h reads source sink t none);
+  }
+    where
+      counts : (a b d : ℕ) → b ≡ n + a → d ≡ suc b → d ≡ (n + 1) + a
+      counts a b d e f = omega (arith, e, f)
+
+      by : (q : List Question) (s : MetaSettings) (partial : List ℕ) (h : History) (reads : ℕ) (source sink : DeviceState)
+          → ((u : Talk q s (c ∷ partial) c h reads Due mid source left sink k2) × (takes u.more ≡ 0))
+          ⊎ Talk q s partial c h reads Due mid source left sink k2
+          → ((u : Talk q s (c ∷ partial) c h reads Due new source left sink k3) × (takes u.more ≡ 0))
+          ⊎ Talk q s partial c h reads Due new source left sink k3
+      by q s partial h reads source sink (inl u) = inr (two.completes q s partial h reads source sink u.0 u.1 tt)
+      by q s partial h reads source sink (inr v) = inr (two.step.on q s partial h reads source sink v)
+
+  -- The last take.
+  pub settles : (to : Stage) → TakeStep c Due to mid new left k2 k3 → SettleStep c to old new left k k3
+  settles to two = record {
+    step = goes_trans c Due Due to same same old mid new left left left k k2 k3 one.step two.step;
+    completes = λ q s partial h reads source sink t none going.
+        by q s partial h reads source sink going (one.completes q s partial h reads source sink t none);
+  }
+    where
+      by : (q : List Question) (s : MetaSettings) (partial : List ℕ) (h : History) (reads : ℕ) (source sink : DeviceState)
+          → IsGoingBefore to s c h
+          → ((u : Talk q s (c ∷ partial) c h reads Due mid source left sink k2) × (takes u.more ≡ 0))
+          ⊎ Talk q s partial c h reads Due mid source left sink k2
+          → Talk q s partial c h reads to new source left sink k3
+      by q s partial h reads source sink going (inl u) = two.completes q s partial h reads source sink u.0 u.1 going
+      by q s partial h reads source sink going (inr v) = two.step.on q s partial h reads source sink v
+
 -- ---- the functions
 
 -- What waited was handed out, and a write failed.
@@ -239,25 +278,47 @@ sent_by hearing E c n old mid new sink held (Ok u) lt d p =
     sent_on hearing E c n old mid new lt d sink held p.0 p.1 p.2
 sent_by hearing E c n old mid new sink held (Err pushes.Write) lt d p =
     sent_broken hearing E c n old mid new lt d sink held p.0 p.1 p.2
-sent_by hearing E c n old mid new sink held (Err pushes.Memory) lt d p =
-    halts_unsaid E c n old mid new d p.0 sink
+sent_by hearing E c n old mid new sink held (Err pushes.Memory) lt d p = λ left.
+    subst (λ z. HaltStep c Due same old new left left sink z) (sym p.1) (halts_unhanded E c n old mid new d p.0 left sink)
 
 -- And then a message was taken.
 pub sent_and_taken : (c : ℕ) (receipt : Receipt) (old mid new : MetaLinks) (sink held : DeviceState)
-    → ((left : DeviceState) → TalkStep c Due Listening same old mid left left sink held) → AfterTakeMessage c receipt mid new
+    → ((left : DeviceState) → SendStep c old mid left sink held) → AfterTakeMessage c receipt mid new
     → AfterSendAndTake c (Ok receipt) old new sink held
-sent_and_taken c receipts.Message old mid new sink held one two = λ left.
-    goes_trans c Due Listening Due same same old mid new left left left sink held held (one left) (two left held)
-sent_and_taken c receipts.Nothing old mid new sink held one two = λ left.
-    goes_trans c Due Listening Waiting same same old mid new left left left sink held held (one left) (two left held)
-sent_and_taken c receipts.Over old mid new sink held one two = λ left.
-    goes_trans c Due Listening Over same same old mid new left left left sink held held (one left) (two left held)
+sent_and_taken c receipt old mid new sink held sent took left =
+    let one : SendStep c old mid left sink held = sent left in
+    let two : TakeStep c Listening (stage_after receipt) mid new left held held = took left held in
+    record {
+      step = record {
+        on = λ q s partial h reads source first t.
+            two.step.on q s partial h reads source first (one.step.on q s partial h reads source first t);
+        reader = two.step.reader ∙ one.step.reader;
+        writer = two.step.writer ∙ one.step.writer;
+      };
+      taken = λ q s partial h reads source first t.
+          two.taken q s partial h reads source first (one.step.on q s partial h reads source first t)
+          ∙ ap (λ n. suc n) (one.taken q s partial h reads source first t);
+      completes = λ q s partial h reads source first t none going.
+          two.completes q s partial h reads source first (one.step.on q s (c ∷ partial) h reads source first t)
+          (one.taken q s (c ∷ partial) h reads source first t ∙ none) going;
+    }
 
--- Sending fails after steps that went on.
-pub unsettled : (c : ℕ) (e : PushError) (old mid new : MetaLinks) (sink held then_held : DeviceState)
-    → ((left : DeviceState) → TalkStep c Due Due same old mid left left sink held)
+-- Sending fails after n messages were taken.
+pub unsettled : (c n : ℕ) (e : PushError) (old mid new : MetaLinks) (sink held then_held : DeviceState)
+    → ((left : DeviceState) → Settling c n old mid left sink held)
     → AfterSendAndTake c (Err e) mid new held then_held → AfterSettle c (Err e) old new sink then_held
-unsettled c pushes.Write old mid new sink held then_held one two =
-    breaks_after c Due old mid new sink held then_held one two
-unsettled c pushes.Memory old mid new sink held then_held one two =
-    halts_after c Due Due same old mid new sink held one two
+unsettled c n pushes.Write old mid new sink held then_held one two =
+    breaks_after c Due old mid new sink held then_held (λ left. (one left).step) two
+unsettled c n pushes.Memory old mid new sink held then_held one two =
+    halts_after c Due Due same old mid new sink held then_held (λ left. (one left).step) two
+
+-- More messages came than memory can hold.
+pub settles_many : (c n : ℕ) (old new : MetaLinks) (sink held : DeviceState) → n ≡ 2 ^ 64 - 1
+    → ((left : DeviceState) → Settling c n old new left sink held)
+    → (left : DeviceState) → HaltStep c Due same old new left left sink held
+settles_many c n old new sink held most one left q s partial h reads source first t =
+    let x : Settling c n old new left sink held = one left in
+    let u : Talk q s partial c h reads Due new source left first held = x.step.on q s partial h reads source first t in
+    let count : takes u.more ≡ n + takes t.more = x.taken q s partial h reads source first t in
+    halted_many c new left held q s partial h reads source first u
+    (let many : 2 ^ 64 - 1 ≤ takes u.more = omega (arith, most, count) in many)

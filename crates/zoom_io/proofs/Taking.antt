@@ -25,8 +25,11 @@ use Rattle.zoom_pool.proofs.Pools.{only_same}
 use Rattle.zoom_pool.proofs.Metas.{transcript_at}
 use Rattle.zoom_pool.proofs.MetaTakes.{took_within}
 use Rattle.zoom_io.specs.declared.talk_steps.Receipt.TheVariants as receipts
-use Rattle.zoom_io.specs.TalkTraces.{Stage, Due, Listening, Waiting, Over, IsAtStage, IsNextStep, IsStoppedAt, TalkTrace, beginning, due_sent, message_taken, none_taken, stop_taken, piece_read, input_end}
-use Rattle.zoom_io.specs.TalkSteps.{AfterTakeMessage, TalkStepAlone, receipt_of}
+use Rattle.zoom_io.specs.Devices.{DeviceState}
+use Rattle.zoom_io.specs.TalkTraces.{Stage, Due, Listening, Waiting, Over, IsAtStage, IsNextStep, IsStoppedAt, IsGoingBefore, takes, TalkTrace, beginning, due_sent, message_taken, none_taken, stop_taken, piece_read, input_end}
+use Rattle.zoom_io.specs.TalkSteps.{AfterTakeMessage, TakeStep, receipt_of}
+use Rattle.zoom_io.proofs.Going.{going_until}
+use Rattle.zoom_io.proofs.Completing.{IsLive, live_going, message_live, took_whole}
 
 -- ---- steps after which the connection is Closed or Failed
 
@@ -174,44 +177,80 @@ module _ (hearing : OneTranscript) (meeting : OneInput) (c : ℕ) (old new : Met
         let halves = take_last was t.0 t.1 (subst IsLast t.2 last) in
         subst (λ z. is_stopped (state_at z) ≡ true) (sym (m.2 ∙ ap (after_take was) (sym one))) halves
 
+    -- The connection was neither Closed nor Failed before a take that did not find it so.
+    lively : IsLive answer → (q : List Question) (s : MetaSettings) (partial : List ℕ) (h : History)
+        (a : MetaAfterUpTo q s partial h old) → is_stopped (state_at (a.pool.transcript c)) ≡ false
+    lively live q s partial h a =
+        let t = is_answer (settings_of s) partial h a.pool done in
+        live_going (a.pool.transcript c) t.0 t.1 (subst IsLive t.2 live)
+
     goes : (to : Stage)
         → ((q : List Question) (s : MetaSettings) (partial : List ℕ) (h : History) → MetaAfterUpTo q s partial h old
         → IsAtStage to s c ((c, Took) ∷ h))
         → ((q : List Question) (s : MetaSettings) (partial : List ℕ) (h more : History) (read written : List ℕ) (reads : ℕ)
         → MetaAfterUpTo q s partial (more ++ h) old → TalkTrace q s c h more read written reads Listening
         → TalkTrace q s c h ((c, Took) ∷ more) read written reads to)
-        → TalkStepAlone c Listening to old new
-    goes to stands trace left held = record {
-      on = λ q s partial h reads source sink t. record {
+        → ((q : List Question) (s : MetaSettings) (partial : List ℕ) (h more : History) (read written : List ℕ) (reads : ℕ)
+        (a : MetaAfterUpTo q s partial (more ++ h) old) → TalkTrace q s c h more read written reads Listening
+        → takes more ≡ 0 → IsGoingBefore to s c h → is_stopped (state_at (a.pool.transcript c)) ≡ false)
+        → (left held : DeviceState) → TakeStep c Listening to old new left held held
+    goes to stands trace goes_on left held = record {
+      step = record {
+        on = λ q s partial h reads source sink t. record {
+          more = (c, Took) ∷ t.more;
+          read = t.read;
+          written = t.written;
+          trace = trace q s partial h t.more t.read t.written reads t.known.0 t.trace;
+          known = (
+            took_within c old new took q s partial (t.more ++ h) t.known.0,
+            stands q s partial (t.more ++ h) t.known.0,
+          );
+          consumed = t.consumed;
+          appended = t.appended;
+        };
+        reader = refl;
+        writer = refl;
+      };
+      taken = λ q s partial h reads source sink t. refl;
+      completes = λ q s partial h reads source sink t none going. record {
         more = (c, Took) ∷ t.more;
         read = t.read;
         written = t.written;
-        trace = trace q s partial h t.more t.read t.written reads t.known.0 t.trace;
+        trace = trace q s (c ∷ partial) h t.more t.read t.written reads t.known.0 t.trace;
         known = (
-          took_within c old new took q s partial (t.more ++ h) t.known.0,
-          stands q s partial (t.more ++ h) t.known.0,
+          took_whole c old new took q s partial (t.more ++ h) t.known.0
+              (goes_on q s (c ∷ partial) h t.more t.read t.written reads t.known.0 t.trace none going),
+          stands q s (c ∷ partial) (t.more ++ h) t.known.0,
         );
         consumed = t.consumed;
         appended = t.appended;
       };
-      reader = refl;
-      writer = refl;
     }
 
-    over : IsLast answer → TalkStepAlone c Listening Over old new
-    over last = goes Over (stopped_after last) (λ q s partial h more read written reads a f. stop_taken f)
+    over : IsLast answer → (left held : DeviceState) → TakeStep c Listening Over old new left held held
+    over last =
+        goes Over (stopped_after last) (λ q s partial h more read written reads a f. stop_taken f)
+        (λ q s partial h more read written reads a f none going. going_until f none going (a.pool.transcript c)
+        (transcript_at (settings_of s) (more ++ h) a.pool.transcript old.pool.connections c a.pool.stands lt))
 
     next_step : (step : Step) → answer ≡ Ok step → (q : List Question) (s : MetaSettings) (partial : List ℕ) (h : History) → MetaAfterUpTo q s partial h old
         → IsNextStep s c h step
     next_step step is q s partial h a p transcript = let t = answered q s partial h a p transcript in (t.0, t.1, sym t.2 ∙ is)
 
-    message : (step : Step) → answer ≡ Ok step → is_message step ≡ true → TalkStepAlone c Listening Due old new
-    message step is m = goes Due (λ q s partial h a. tt)
+    message : (step : Step) → answer ≡ Ok step → is_message step ≡ true
+        → (left held : DeviceState) → TakeStep c Listening Due old new left held held
+    message step is m =
+        goes Due (λ q s partial h a. tt)
         (λ q s partial h more read written reads a f. message_taken step f (next_step step is q s partial (more ++ h) a) m)
+        (λ q s partial h more read written reads a f none going.
+        lively (subst IsLive (sym is) (message_live step m)) q s partial (more ++ h) a)
 
-    nothing : answer ≡ Ok steps.Nothing → TalkStepAlone c Listening Waiting old new
-    nothing is = goes Waiting (λ q s partial h a. tt)
+    nothing : answer ≡ Ok steps.Nothing → (left held : DeviceState) → TakeStep c Listening Waiting old new left held held
+    nothing is =
+        goes Waiting (λ q s partial h a. tt)
         (λ q s partial h more read written reads a f. none_taken f (next_step steps.Nothing is q s partial (more ++ h) a))
+        (λ q s partial h more read written reads a f none going.
+        lively (subst IsLive (sym is) tt) q s partial (more ++ h) a)
 
 -- A take that returned a step.
 pub taken_step : OneTranscript → OneInput → (c : ℕ) (old new : MetaLinks) → c < length old.pool.connections

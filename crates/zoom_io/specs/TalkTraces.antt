@@ -1,5 +1,5 @@
 -- A connection is driven over devices: the order of its events, and the octets read and written (Z39.50-2003, 3.2).
-use Rattle.std.specs.Prelude.{◌≡◌, ℕ, suc, ◌<◌, ◌≤◌, ◌==◌, Bool, true, false, List, [], ◌∷◌, ◌++◌, length, slice_get, Some, Result, Ok, Err}
+use Rattle.std.specs.Prelude.{◌≡◌, ℕ, zero, suc, ◌-◌, ◌^◌, ◌<◌, ◌≤◌, ◌==◌, Bool, true, false, List, [], ◌∷◌, ◌++◌, length, slice_get, Some, Result, Ok, Err}
 use Rattle.std.specs.Io.KnownBytes.{Appends, Consumes, IsAtEnd}
 use Rattle.zorigin.specs.Standings.{Call}
 use Rattle.zoom_questions.specs.declared.question.Question.{Question}
@@ -54,6 +54,10 @@ IsNextStep s c h step =
 abbrev pub IsStoppedAt : MetaSettings → ℕ → History → Type 0
 IsStoppedAt s c h = (p : Transcript) → IsTranscript (settings_of s) (events_on c h) p → is_stopped (state_at p) ≡ true
 
+-- The events of the connection leave it neither Closed nor Failed.
+abbrev pub IsGoingAt : MetaSettings → ℕ → History → Type 0
+IsGoingAt s c h = (p : Transcript) → IsTranscript (settings_of s) (events_on c h) p → is_stopped (state_at p) ≡ false
+
 -- The connection ended for a reason other than the end of its input.
 abbrev pub ended_well : State → Bool
 ended_well states.Closed = true
@@ -106,6 +110,12 @@ pub data TalkTrace (questions : List Question) (s : MetaSettings) (c : ℕ) (h :
       → TalkTrace questions s c h more read written reads Waiting
       → TalkTrace questions s c h ((c, Took) ∷ (c, InputEnded) ∷ more) read written reads Ended
 
+-- the number of takes among these events
+abbrev pub takes : History → ℕ
+takes [] = 0
+takes ((c, Took) ∷ h) = suc (takes h)
+takes (_ ∷ h) = takes h
+
 -- A talk so far: its trace after a history, what its devices gave and took, and what is known of the history with the
 -- trace.
 pub record TalkOf
@@ -148,28 +158,102 @@ same n = n
 
 -- ---- no memory is found
 
--- This connection alone had new events, and a part of what its next take makes known may be known.
-pub record HaltedTalk (questions : List Question) (s : MetaSettings) (partial : List ℕ) (c : ℕ) (h : History)
-    (new : MetaLinks) : Type 0 where
+-- The new events of the connection, the newest first, until no memory is found; with the connections of which a part of
+-- the next message may be known then, the octets read, the octets written, and the number of reads that gave octets.
+-- No memory was found for a call that was due: the calls made before it stand. For handing out: all due calls were
+-- made, and nothing more was handed out. For taking a message: the message is kept. For a piece: it was read, and
+-- nothing of it was fed. For taking what was left when the source had no octets left. Or more messages came than memory
+-- can hold.
+pub data StarvedTalkEvents
+    (questions : List Question) (s : MetaSettings) (partial : List ℕ) (c : ℕ) (h : History) (left : DeviceState)
+    : List ℕ → History → List ℕ → List ℕ → ℕ → Type 0 where
+  uncalled : {more : History} {read written : List ℕ} {reads : ℕ} (calls : List Call)
+      → TalkTrace questions s c h more read written reads Due
+      → StarvedTalkEvents questions s partial c h left partial (call_events c calls ++ more) read written reads
+  unhanded : {more : History} {read written : List ℕ} {reads : ℕ} (calls : List Call)
+      → TalkTrace questions s c h more read written reads Due
+      → IsIdleConnection questions s c (call_events c calls ++ (more ++ h))
+      → StarvedTalkEvents questions s partial c h left partial (call_events c calls ++ more) read written reads
+  untaken : {more : History} {read written : List ℕ} {reads : ℕ}
+      → TalkTrace questions s c h more read written reads Listening
+      → StarvedTalkEvents questions s partial c h left (c ∷ partial) more read written reads
+  unfed : {more : History} {read written : List ℕ} {reads : ℕ} (piece : List ℕ)
+      → TalkTrace questions s c h more read written reads Waiting → 0 < length piece → length piece ≤ 4096
+      → StarvedTalkEvents questions s partial c h left partial more (read ++ piece) written (suc reads)
+  unended : {more : History} {read written : List ℕ} {reads : ℕ}
+      → TalkTrace questions s c h more read written reads Waiting → IsAtEnd left.octets
+      → StarvedTalkEvents questions s partial c h left (c ∷ partial) ((c, InputEnded) ∷ more) read written reads
+  too_many : {more : History} {read written : List ℕ} {reads : ℕ}
+      → TalkTrace questions s c h more read written reads Due → 2 ^ 64 - 1 ≤ takes more
+      → StarvedTalkEvents questions s partial c h left partial more read written reads
+
+-- A talk with these new events and this number of reads, until no memory is found; and what is known of the history
+-- with the events, if a part of the next messages of some connections may be known.
+pub record StarvedTalk
+    (Known : List ℕ → History → Type 0) (questions : List Question) (s : MetaSettings) (partial : List ℕ) (c : ℕ)
+    (h more : History) (reads : ℕ) (source left sink held : DeviceState)
+    : Type 0 where
+  pub read : List ℕ
+  pub written : List ℕ
+  pub then_partial : List ℕ
+  pub starves : StarvedTalkEvents questions s partial c h left then_partial more read written reads
+  pub known : Known then_partial (more ++ h)
+  pub consumed : Consumes source.octets left.octets read
+  pub appended : Appends sink.octets held.octets written
+
+-- No memory was found. This connection alone had new events, and a part of what its next take makes known may be known.
+pub record HaltedTalk
+    (questions : List Question) (s : MetaSettings) (partial : List ℕ) (c : ℕ) (h : History) (reads : ℕ)
+    (new : MetaLinks) (source left sink held : DeviceState)
+    : Type 0 where
   pub more : History
   pub others : (i : ℕ) → (c == i) ≡ false → events_on i more ≡ []
   pub after : MetaAfterUpTo questions s (c ∷ partial) (more ++ h) new
+  pub talk : StarvedTalk (λ then_partial k. MetaAfterUpTo questions s then_partial k new) questions s partial c h more
+      reads source left sink held
 
--- The talk halts, after every talk at this stage that wrote to this device.
-abbrev pub HaltStep : ℕ → Stage → MetaLinks → MetaLinks → DeviceState → Type 0
-HaltStep c from old new held =
+-- The talk halts, after every talk at this stage.
+abbrev pub HaltStep
+    : ℕ → Stage → (ℕ → ℕ) → MetaLinks → MetaLinks → DeviceState → DeviceState → DeviceState → DeviceState → Type 0
+HaltStep c from more old new left then_left held then_held =
     (questions : List Question) (s : MetaSettings) (partial : List ℕ) (h : History) (reads : ℕ)
-    (source left sink : DeviceState)
-    → Talk questions s partial c h reads from old source left sink held → HaltedTalk questions s partial c h new
+    (source sink : DeviceState) → Talk questions s partial c h reads from old source left sink held
+    → HaltedTalk questions s partial c h (more reads) new source then_left sink then_held
 
 -- No memory was found, and the caller then stopped the connection for `Memory`. This connection alone had new events.
 -- A part of what its next message says may be known; all calls on the others keep their promises.
 pub record OutOfMemory
-    (questions : List Question) (s : MetaSettings) (partial : List ℕ) (c : ℕ) (h : History) (new : MetaLinks)
+    (questions : List Question) (s : MetaSettings) (partial : List ℕ) (c : ℕ) (h : History) (reads : ℕ)
+    (new : MetaLinks) (source left sink held : DeviceState)
     : Type 0 where
   pub more : History
   pub others : (i : ℕ) → (c == i) ≡ false → events_on i more ≡ []
   pub after : MetaAfterUpTo questions s (c ∷ partial) ((c, Stopped reasons.Memory) ∷ (more ++ h)) new
+  pub talk : StarvedTalk
+      (λ then_partial k. MetaAfterUpTo questions s then_partial ((c, Stopped reasons.Memory) ∷ k) new)
+      questions s partial c h more reads source left sink held
+
+-- ---- a take is completed
+
+-- Finding the connection Closed or Failed completes no earlier take, so it has to be neither before.
+abbrev pub IsGoingBefore : Stage → MetaSettings → ℕ → History → Type 0
+IsGoingBefore Over s c h = IsGoingAt s c h
+IsGoingBefore _ s c h = Unit {0}
+
+-- A take of the connection found no memory before the talk. The first take of the talk completes it.
+abbrev pub CompletingStep
+    : ℕ → Stage → Stage → MetaLinks → MetaLinks → DeviceState → DeviceState → DeviceState → Type 0
+CompletingStep c from to old new left held then_held =
+    (questions : List Question) (s : MetaSettings) (partial : List ℕ) (h : History) (reads : ℕ)
+    (source sink : DeviceState) (t : Talk questions s (c ∷ partial) c h reads from old source left sink held)
+    → takes t.more ≡ 0 → IsGoingBefore to s c h
+    → Talk questions s partial c h reads to new source left sink then_held
+
+-- The connections of which a part of the next message may be known after n reads, if connection c was one before: it
+-- is one still until the first read, as takes come before it.
+abbrev pub still_partial : ℕ → ℕ → List ℕ → List ℕ
+still_partial zero c partial = c ∷ partial
+still_partial (suc n) c partial = partial
 
 -- ---- how it ends
 
@@ -242,8 +326,8 @@ pub record CutTalk
 
 -- What each result of a talk says, for a history that can have left the connections before it. `Read`, `Write`: a
 -- read or a write failed. `Ended`: the input ended, and the connection was not Closing. `Turns`: `turns` reads gave
--- octets, and the connection did not end after them. `Memory`: no memory was found, and what is known is what the
--- events, and perhaps a part of the next message, make known.
+-- octets, and the connection did not end after them. `Memory`: no memory was found, after at most `turns` reads that
+-- gave octets; what is known is what the events, and perhaps a part of the next message, make known.
 abbrev pub TalkResult
     : List Question → MetaSettings → List ℕ → ℕ → History → ℕ → Result (Unit {0}) TalkError → MetaLinks
     → DeviceState → DeviceState → DeviceState → DeviceState → Type 0
@@ -259,7 +343,24 @@ TalkResult questions s partial c h turns (Err errors.Ended) new source left sink
 TalkResult questions s partial c h turns (Err errors.Turns) new source left sink held =
     StoppedTalk questions s partial c h turns Waiting reasons.Turns new source left sink held
 TalkResult questions s partial c h turns (Err errors.Memory) new source left sink held =
-    OutOfMemory questions s partial c h new
+    (reads : ℕ) × (reads ≤ turns) × OutOfMemory questions s partial c h reads new source left sink held
+
+-- What each result says, if a take of connection c found no memory before the talk: a take of the talk completes it.
+-- After `Ok` this holds if the connection was neither Closed nor Failed before the talk, and after `Write` and `Memory`
+-- if a read gave octets.
+abbrev pub CompletedResult
+    : List Question → MetaSettings → List ℕ → ℕ → History → ℕ → Result (Unit {0}) TalkError → MetaLinks
+    → DeviceState → DeviceState → DeviceState → DeviceState → Type 0
+CompletedResult questions s partial c h turns (Ok u) new source left sink held =
+    IsGoingAt s c h → TalkResult questions s partial c h turns (Ok u) new source left sink held
+CompletedResult questions s partial c h turns (Err errors.Write) new source left sink held =
+    (reads : ℕ) × (reads ≤ turns)
+    × BrokenTalk questions s (still_partial reads c partial) c h reads new source left sink held
+CompletedResult questions s partial c h turns (Err errors.Memory) new source left sink held =
+    (reads : ℕ) × (reads ≤ turns)
+    × OutOfMemory questions s (still_partial reads c partial) c h reads new source left sink held
+CompletedResult questions s partial c h turns (Err error) new source left sink held =
+    TalkResult questions s partial c h turns (Err error) new source left sink held
 
 -- What each result, except `Memory`, says of the devices. If one is blamed, one call of it failed and none of the
 -- other; if none is blamed, no call failed. After `Ended`, the source has no octets left.
@@ -294,5 +395,8 @@ pub record AfterTalk
   pub on : (questions : List Question) (s : MetaSettings) (partial : List ℕ) (h : History)
       → MetaAfterUpTo questions s partial h old
       → TalkResult questions s partial c h turns result new source left sink held
+  pub whole : (questions : List Question) (s : MetaSettings) (partial : List ℕ) (h : History)
+      → MetaAfterUpTo questions s (c ∷ partial) h old
+      → CompletedResult questions s partial c h turns result new source left sink held
   pub blamed : IsErrorOf result source left sink held
   pub stopped : IsStoppedFor c result new

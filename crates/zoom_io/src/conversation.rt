@@ -188,14 +188,21 @@ fn converse<R: Source, W: Sink>(
 /// those that the connection was fed; the octets written are those that it handed out. This is promised of a device
 /// whose octets are known. Before each take, everything sent by then is handed out and written.
 ///
+/// If a take of the connection found no memory before the talk, the first take of the talk completes it, unless the
+/// connection was Closed or Failed by then. So after `Read`, `Ended` and `Turns` what is known of the connection is
+/// what its messages say. After `Ok` this is promised if it was neither Closed nor Failed before the talk, and after
+/// `Write` and `Memory` if a read gave octets.
+///
 /// Each refusal leaves the connection failed for the same reason. At most one call of a device fails:
 ///
 /// - `Read`, `Write`: one call of that device failed, and none of the other. After `Write`, a front of the octets
 ///   handed out last was written.
 /// - `Ended`: the input ended after a whole message, and the connection was not Closing.
 /// - `Turns`: `turns` reads gave octets, and the connection did not end after them.
-/// - `Memory`: no memory was found, and no call of a device failed. What is known is what the messages taken say, and
-///   perhaps a part of what the next message says. All calls on the other connections keep their promises, as after a
+/// - `Memory`: no memory was found, and no call of a device failed. At most `turns` reads gave octets. The calls made,
+///   the octets handed out and written, and the messages taken stand. If memory was wanting for a piece, it was read,
+///   and nothing of it was fed. What is known is what the messages taken say; if memory was wanting for a take, perhaps
+///   also a part of what the next message says. All calls on the other connections keep their promises, as after a
 ///   take that found no memory.
 ///
 /// The other connections are unchanged, whatever the result.

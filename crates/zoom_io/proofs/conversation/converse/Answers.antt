@@ -2,20 +2,25 @@ use Rattle.std.proofs.Common.{◌≡◌, ◌∙◌, ◌<◌, ap, subst, sym, Boo
 use Rattle.std.proofs.lemmas.Result.{err_from_is_err_and}
 use Rattle.zoom_io.specs.TalkTraces.{Due}
 use Rattle.zoom_io.specs.Talking.{AfterConverse}
-use Rattle.zoom_io.proofs.Sending.{Begun, begun}
+use Rattle.zoom_io.proofs.Sending.{Begun, begun, Opened, opened}
 use Rattle.zoom_io.specs.Devices.{HasNoFailure}
 use Rattle.zoom_io.specs.Blameless.{IfTalkMemory}
 use Rattle.zoom_io.proofs.Blameless.{if_talk, push_to_talk, talk_memory, settled_soundly, ended_soundly}
-use Rattle.zoom_io.proofs.Ending.{ends_over, waits_on, ends_unsettled, ends_at_limit, ends_unread, listened_on, ends_finished}
+use Rattle.zoom_io.proofs.Ending.{ends_over, waits_on, completed_on, ends_unsettled, ends_at_limit, ends_unread, listened_on, opened_on, ends_finished}
 use Rattle.zoom_io.proofs.Others.{others_none, others_more, else_others}
 use Rattle.zoom_io.proofs.conversation.converse.Goals as goal
 
 pub loop-init : goal.loop-init
 loop-init g c =
-    (begun c.args.c c.args.meta.now (g.R.Source.state c.args.source.now) (g.W.Sink.state c.args.sink.now), others_none c.args.c c.args.meta.now.pool)
+    let source = g.R.Source.state c.args.source.now in
+    let sink = g.W.Sink.state c.args.sink.now in (
+      begun c.args.c c.args.meta.now source sink,
+      opened c.args.c c.args.meta.now source sink,
+      others_none c.args.c c.args.meta.now.pool,
+    )
 
 pub settle-requires : goal.settle-requires
-settle-requires g c = subst (λ n. c.args.c < n) (sym c.loop.invariant.1.size) c.requires
+settle-requires g c = subst (λ n. c.args.c < n) (sym c.loop.invariant.2.size) c.requires
 
 pub returns-then-branch : goal.returns-then-branch
 returns-then-branch g c =
@@ -24,9 +29,9 @@ returns-then-branch g c =
       talks = ends_over c.args.c c.loop.counter c.args.turns c.args.meta.now c.loop.meta c.settle.new.meta
           (g.R.Source.state c.args.source.now) (g.R.Source.state c.loop.source) (g.W.Sink.state c.args.sink.now)
           (g.W.Sink.state c.loop.sink) (g.W.Sink.state c.settle.new.sink) (omega (arith, few)) c.loop.invariant.0
-          c.in_ok-settle.field-0 c.in_ok-settle.ensures.settles c.if-branch.true;
+          c.loop.invariant.1 c.in_ok-settle.field-0 c.in_ok-settle.ensures.settles c.if-branch.true;
       sound = tt;
-      others = others_more c.args.c c.args.meta.now.pool c.loop.meta.pool c.settle.new.meta.pool c.loop.invariant.1
+      others = others_more c.args.c c.args.meta.now.pool c.loop.meta.pool c.settle.new.meta.pool c.loop.invariant.2
           c.settle.ensures.others;
     }
 
@@ -40,7 +45,7 @@ returns-in_err-settle-clause-talks g c =
     (ends_unsettled c.args.c c.loop.counter c.args.turns c.args.meta.now c.loop.meta c.settle.new.meta
     (g.R.Source.state c.args.source.now) (g.R.Source.state c.loop.source) (g.W.Sink.state c.args.sink.now)
     (g.W.Sink.state c.loop.sink) (g.W.Sink.state c.settle.new.sink) (omega (arith, few)) c.loop.invariant.0
-    c.in_err-settle.field-0.0 c.in_err-settle.ensures.settles c.in_err-settle.ensures.stopped)
+    c.loop.invariant.1 c.in_err-settle.field-0.0 c.in_err-settle.ensures.settles c.in_err-settle.ensures.stopped)
 
 pub returns-in_err-listen-clause-talks : goal.returns-in_err-listen-clause-talks
 returns-in_err-listen-clause-talks g c =
@@ -55,6 +60,10 @@ returns-in_err-listen-clause-talks g c =
     (waits_on c.args.c c.loop.counter c.args.meta.now c.loop.meta c.settle.new.meta (g.R.Source.state c.args.source.now)
     (g.R.Source.state c.loop.source) (g.W.Sink.state c.args.sink.now) (g.W.Sink.state c.loop.sink)
     (g.W.Sink.state c.settle.new.sink) c.loop.invariant.0 c.in_ok-settle.field-0 c.in_ok-settle.ensures.settles
+    c.if-branch.false)
+    (completed_on c.args.c c.loop.counter c.args.meta.now c.loop.meta c.settle.new.meta (g.R.Source.state c.args.source.now)
+    (g.R.Source.state c.loop.source) (g.W.Sink.state c.args.sink.now) (g.W.Sink.state c.loop.sink)
+    (g.W.Sink.state c.settle.new.sink) c.loop.invariant.1 c.in_ok-settle.field-0 c.in_ok-settle.ensures.settles
     c.if-branch.false) c.in_err-listen.field-0.0 c.in_err-listen.ensures.listens)
 
 pub returns-then-not-branch-clause-talks : goal.returns-then-not-branch-clause-talks
@@ -66,6 +75,10 @@ returns-then-not-branch-clause-talks g c =
     (waits_on c.args.c c.loop.counter c.args.meta.now c.loop.meta c.settle.new.meta (g.R.Source.state c.args.source.now)
     (g.R.Source.state c.loop.source) (g.W.Sink.state c.args.sink.now) (g.W.Sink.state c.loop.sink)
     (g.W.Sink.state c.settle.new.sink) c.loop.invariant.0 c.in_ok-settle.field-0 c.in_ok-settle.ensures.settles
+    c.if-branch.false)
+    (completed_on c.args.c c.loop.counter c.args.meta.now c.loop.meta c.settle.new.meta (g.R.Source.state c.args.source.now)
+    (g.R.Source.state c.loop.source) (g.W.Sink.state c.args.sink.now) (g.W.Sink.state c.loop.sink)
+    (g.W.Sink.state c.settle.new.sink) c.loop.invariant.1 c.in_ok-settle.field-0 c.in_ok-settle.ensures.settles
     c.if-branch.false) c.in_ok-listen.field-0 c.in_ok-listen.ensures.listens c.if-not-branch.true c.finish.result
     c.finish.ensures.finishes
 
@@ -79,8 +92,16 @@ loop-preserved g c = (
       (g.W.Sink.state c.loop.sink) (g.W.Sink.state c.settle.new.sink) c.loop.invariant.0 c.in_ok-settle.field-0
       c.in_ok-settle.ensures.settles c.if-branch.false) c.in_ok-listen.field-0 c.in_ok-listen.ensures.listens
       c.if-not-branch.false,
+  opened_on c.args.c c.loop.counter c.args.meta.now c.settle.new.meta c.listen.new.meta
+      (g.R.Source.state c.args.source.now) (g.R.Source.state c.loop.source) (g.R.Source.state c.listen.new.source)
+      (g.W.Sink.state c.args.sink.now) (g.W.Sink.state c.settle.new.sink)
+      (completed_on c.args.c c.loop.counter c.args.meta.now c.loop.meta c.settle.new.meta
+      (g.R.Source.state c.args.source.now) (g.R.Source.state c.loop.source) (g.W.Sink.state c.args.sink.now)
+      (g.W.Sink.state c.loop.sink) (g.W.Sink.state c.settle.new.sink) c.loop.invariant.1 c.in_ok-settle.field-0
+      c.in_ok-settle.ensures.settles c.if-branch.false) c.in_ok-listen.field-0 c.in_ok-listen.ensures.listens
+      c.if-not-branch.false,
   others_more c.args.c c.args.meta.now.pool c.settle.new.meta.pool c.listen.new.meta.pool
-      (others_more c.args.c c.args.meta.now.pool c.loop.meta.pool c.settle.new.meta.pool c.loop.invariant.1
+      (others_more c.args.c c.args.meta.now.pool c.loop.meta.pool c.settle.new.meta.pool c.loop.invariant.2
       c.settle.ensures.others) c.listen.ensures.others,
 )
 
@@ -94,7 +115,7 @@ returns-in_err-settle-2-clause-talks g c =
     (ends_unsettled c.args.c c.loop.counter c.args.turns c.args.meta.now c.loop.meta c.settle-2.new.meta
     (g.R.Source.state c.args.source.now) (g.R.Source.state c.loop.source) (g.W.Sink.state c.args.sink.now)
     (g.W.Sink.state c.loop.sink) (g.W.Sink.state c.settle-2.new.sink) (omega (arith, all)) c.loop.invariant.0
-    c.in_err-settle-2.field-0.0 c.in_err-settle-2.ensures.settles c.in_err-settle-2.ensures.stopped)
+    c.loop.invariant.1 c.in_err-settle-2.field-0.0 c.in_err-settle-2.ensures.settles c.in_err-settle-2.ensures.stopped)
 
 pub returns-then-branch-2-clause-talks : goal.returns-then-branch-2-clause-talks
 returns-then-branch-2-clause-talks g c =
@@ -102,7 +123,7 @@ returns-then-branch-2-clause-talks g c =
     ends_over c.args.c c.loop.counter c.args.turns c.args.meta.now c.loop.meta c.settle-2.new.meta
     (g.R.Source.state c.args.source.now) (g.R.Source.state c.loop.source) (g.W.Sink.state c.args.sink.now)
     (g.W.Sink.state c.loop.sink) (g.W.Sink.state c.settle-2.new.sink) (omega (arith, all)) c.loop.invariant.0
-    c.in_ok-settle-2.field-0 c.in_ok-settle-2.ensures.settles c.if-branch-2.true
+    c.loop.invariant.1 c.in_ok-settle-2.field-0 c.in_ok-settle-2.ensures.settles c.if-branch-2.true
 
 pub returns-clause-talks : goal.returns-clause-talks
 returns-clause-talks g c =
@@ -116,40 +137,47 @@ returns-clause-talks g c =
     (subst (λ n. Begun c.args.c n Due c.args.meta.now c.loop.meta (g.R.Source.state c.args.source.now)
     (g.R.Source.state c.loop.source) (g.W.Sink.state c.args.sink.now) (g.W.Sink.state c.loop.sink)) all
     c.loop.invariant.0) c.in_ok-settle-2.field-0
+    c.in_ok-settle-2.ensures.settles c.if-branch-2.false)
+    (completed_on c.args.c c.args.turns c.args.meta.now c.loop.meta c.settle-2.new.meta (g.R.Source.state c.args.source.now)
+    (g.R.Source.state c.loop.source) (g.W.Sink.state c.args.sink.now) (g.W.Sink.state c.loop.sink)
+    (g.W.Sink.state c.settle-2.new.sink)
+    (subst (λ n. Opened c.args.c n c.args.meta.now c.loop.meta (g.R.Source.state c.args.source.now)
+    (g.R.Source.state c.loop.source) (g.W.Sink.state c.args.sink.now) (g.W.Sink.state c.loop.sink)) all
+    c.loop.invariant.1) c.in_ok-settle-2.field-0
     c.in_ok-settle-2.ensures.settles c.if-branch-2.false) c.stop.ensures.after c.stop.ensures.stopped
 
 pub returns-in_err-settle-clause-others : goal.returns-in_err-settle-clause-others
 returns-in_err-settle-clause-others g c =
-    others_more c.args.c c.args.meta.now.pool c.loop.meta.pool c.settle.new.meta.pool c.loop.invariant.1
+    others_more c.args.c c.args.meta.now.pool c.loop.meta.pool c.settle.new.meta.pool c.loop.invariant.2
     c.settle.ensures.others
 
 pub returns-in_err-listen-clause-others : goal.returns-in_err-listen-clause-others
 returns-in_err-listen-clause-others g c =
     others_more c.args.c c.args.meta.now.pool c.settle.new.meta.pool c.listen.new.meta.pool
-    (others_more c.args.c c.args.meta.now.pool c.loop.meta.pool c.settle.new.meta.pool c.loop.invariant.1
+    (others_more c.args.c c.args.meta.now.pool c.loop.meta.pool c.settle.new.meta.pool c.loop.invariant.2
     c.settle.ensures.others) c.listen.ensures.others
 
 pub returns-then-not-branch-clause-others : goal.returns-then-not-branch-clause-others
 returns-then-not-branch-clause-others g c =
     others_more c.args.c c.args.meta.now.pool c.listen.new.meta.pool c.finish.new.meta.pool
     (others_more c.args.c c.args.meta.now.pool c.settle.new.meta.pool c.listen.new.meta.pool
-    (others_more c.args.c c.args.meta.now.pool c.loop.meta.pool c.settle.new.meta.pool c.loop.invariant.1
+    (others_more c.args.c c.args.meta.now.pool c.loop.meta.pool c.settle.new.meta.pool c.loop.invariant.2
     c.settle.ensures.others) c.listen.ensures.others) c.finish.ensures.others
 
 pub returns-in_err-settle-2-clause-others : goal.returns-in_err-settle-2-clause-others
 returns-in_err-settle-2-clause-others g c =
-    others_more c.args.c c.args.meta.now.pool c.loop.meta.pool c.settle-2.new.meta.pool c.loop.invariant.1
+    others_more c.args.c c.args.meta.now.pool c.loop.meta.pool c.settle-2.new.meta.pool c.loop.invariant.2
     c.settle-2.ensures.others
 
 pub returns-then-branch-2-clause-others : goal.returns-then-branch-2-clause-others
 returns-then-branch-2-clause-others g c =
-    others_more c.args.c c.args.meta.now.pool c.loop.meta.pool c.settle-2.new.meta.pool c.loop.invariant.1
+    others_more c.args.c c.args.meta.now.pool c.loop.meta.pool c.settle-2.new.meta.pool c.loop.invariant.2
     c.settle-2.ensures.others
 
 pub returns-clause-others : goal.returns-clause-others
 returns-clause-others g c =
     others_more c.args.c c.args.meta.now.pool c.settle-2.new.meta.pool c.stop.new.self.pool
-    (others_more c.args.c c.args.meta.now.pool c.loop.meta.pool c.settle-2.new.meta.pool c.loop.invariant.1
+    (others_more c.args.c c.args.meta.now.pool c.loop.meta.pool c.settle-2.new.meta.pool c.loop.invariant.2
     c.settle-2.ensures.others)
     (else_others c.args.c c.settle-2.new.meta.pool c.stop.new.self.pool c.stop.ensures.rest)
 

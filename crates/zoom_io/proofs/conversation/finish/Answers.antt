@@ -1,8 +1,7 @@
 use Rattle.std.proofs.Common.{ap, sym, subst, ◌∙◌, ◌<◌, true, false, Err}
 use Rattle.std.proofs.lemmas.Result.{err_from_is_err_and}
-use Rattle.zoom_io.specs.TalkTraces.{Waiting}
 use Rattle.zoom_io.specs.Talking.{AfterFinish}
-use Rattle.zoom_io.proofs.Sending.{halts_ended}
+use Rattle.zoom_io.proofs.Starving.{halts_unended}
 use Rattle.zoom_io.proofs.Ending.{goes_ended, well_tells}
 use Rattle.zoom_io.proofs.Others.{others_more, else_others}
 use Rattle.zoom_io.proofs.conversation.finish.Goals as goal
@@ -34,7 +33,7 @@ pub returns-in_err-take_last-clause-finishes : goal.returns-in_err-take_last-cla
 returns-in_err-take_last-clause-finishes c =
     let p = err_from_is_err_and c.from_residual.result c.from_residual.ensures.1 in
     subst (λ z. AfterFinish c.args.c z c.args.meta.now c.take_last.new.meta) (sym (p.1 ∙ ap Err p.2))
-    (halts_ended c.args.c Waiting c.args.meta.now c.end.new.self c.take_last.new.meta
+    (halts_unended c.args.c c.args.meta.now c.end.new.self c.take_last.new.meta
     c.end.ensures.after c.in_err-take_last.ensures.keeps)
 
 pub returns-then-ended_well-clause-others : goal.returns-then-ended_well-clause-others

@@ -1,8 +1,7 @@
 use Rattle.std.proofs.Common.{◌≡◌, ◌<◌, ◌≤◌, length, ap, subst, sym, ◌∙◌, Err, rules, arith}
 use Rattle.std.proofs.lemmas.Result.{err_from_is_err_and}
-use Rattle.zoom_io.specs.TalkTraces.{Waiting}
 use Rattle.zoom_io.specs.Talking.{AfterListen}
-use Rattle.zoom_io.proofs.Sending.{halts_same}
+use Rattle.zoom_io.proofs.Starving.{halts_unfed}
 use Rattle.zoom_io.proofs.Ending.{fed_on}
 use Rattle.zoom_io.proofs.Others.{else_others}
 use Rattle.zoom_io.proofs.Blameless.{if_talk}
@@ -20,10 +19,15 @@ returns-in_ok-feed-in-Ok-clause-listens g c =
 
 pub returns-in_err-feed-in-Ok-clause-listens : goal.returns-in_err-feed-in-Ok-clause-listens
 returns-in_err-feed-in-Ok-clause-listens g c =
+    let some : 0 < c.in-Ok.count = search rules in
+    let whole : length c.read.new.piece ≡ 4096 = search rules in
+    let front = c.in-Ok.ensures.bound in
+    let few : c.in-Ok.count ≤ 4096 = omega (arith, front.0, whole) in
     let p = err_from_is_err_and c.from_residual.result c.from_residual.ensures.1 in
     subst (λ z. AfterListen c.args.c z c.args.meta.now c.feed.new.self (g.R.Source.state c.args.source.now)
     (g.R.Source.state c.read.new.self)) (sym (p.1 ∙ ap Err p.2))
-    (halts_same c.args.c Waiting c.args.meta.now c.feed.new.self c.in_err-feed-in-Ok.ensures.err)
+    (halts_unfed c.args.c c.args.meta.now c.feed.new.self _ _ _ c.in_err-feed-in-Ok.ensures.err
+    c.in-Ok.ensures.reads.octets.0 (subst (λ n. 0 < n) front.1 some) (subst (λ n. n ≤ 4096) front.1 few))
 
 pub returns-in_ok-feed-in-Ok-clause-others : goal.returns-in_ok-feed-in-Ok-clause-others
 returns-in_ok-feed-in-Ok-clause-others g c =

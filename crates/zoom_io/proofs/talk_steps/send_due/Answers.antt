@@ -2,7 +2,8 @@ use Rattle.std.proofs.Common.{◌∙◌, ap, subst, sym, refl, ◌<◌, Err}
 use Rattle.std.proofs.lemmas.Result.{err_from_is_err_and}
 use Rattle.std.specs.declared.alloc.AllocError.{AllocError}
 use Rattle.zoom_io.specs.TalkSteps.{AfterSendDue}
-use Rattle.zoom_io.proofs.Sending.{halts_driven, sent_by}
+use Rattle.zoom_io.proofs.Sending.{sent_by}
+use Rattle.zoom_io.proofs.Starving.{halts_driven}
 use Rattle.zoom_pool.proofs.Pools.{else_more}
 use Rattle.zoom_io.proofs.Others.{else_others}
 use Rattle.zoom_io.proofs.Blameless.{if_push, pushed_soundly}
@@ -13,8 +14,8 @@ returns-in_err-drive-clause-after g c =
     let p = err_from_is_err_and c.from_residual.result c.from_residual.ensures.1 in
     let sink = g.W.Sink.state c.args.sink.now in
     subst (λ z. AfterSendDue c.args.c z c.args.meta.now c.drive.new.self sink sink) (sym (p.1 ∙ ap Err p.2))
-    (halts_driven AllocError c.in_err-drive.field-0.0 c.args.c c.args.meta.now c.drive.new.self
-    c.in_err-drive.ensures.after sink)
+    (λ left. halts_driven AllocError c.in_err-drive.field-0.0 c.args.c c.args.meta.now c.drive.new.self
+    c.in_err-drive.ensures.after left sink)
 
 pub returns-clause-after : goal.returns-clause-after
 returns-clause-after g c =

@@ -1,8 +1,7 @@
 use Rattle.std.proofs.Common.{ap, sym, subst, Err}
 use Rattle.zoom_io.specs.TalkSteps.{AfterTakeMessage}
 use Rattle.zoom_io.proofs.Taking.{taken_step, taken_refusal}
-use Rattle.zoom_io.proofs.Sending.{halts_keeps}
-use Rattle.zoom_io.specs.TalkTraces.{Listening}
+use Rattle.zoom_io.proofs.Starving.{halts_untaken}
 use Rattle.zoom_io.proofs.talk_steps.take_message.Goals as goal
 
 pub returns-in-Ok-clause-after : goal.returns-in-Ok-clause-after
@@ -22,5 +21,5 @@ returns-in_default c = record {
 
 pub returns-in-Memory-clause-err : goal.returns-in-Memory-clause-err
 returns-in-Memory-clause-err c =
-    halts_keeps c.args.c Listening c.args.meta.now c.take.new.self
+    halts_untaken c.args.c c.args.meta.now c.take.new.self
     (c.in-Err.ensures.memory (ap Err c.in-Memory.is))
