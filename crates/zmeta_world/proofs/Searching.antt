@@ -1,16 +1,21 @@
 -- One search for all questions: its parts, and the world with it.
-use Rattle.std.proofs.Common.{◌≡◌, ◌∙◌, sym, ap, subst, refl, ℕ, ◌≤◌, ◌<◌, ◌^◌, List, [], ◌∷◌, ◌++◌, length, Option, Some, None, Result, Ok, Err, IfErr, ◌⊎◌, inl, inr, arith}
+use Rattle.std.proofs.Common.{◌≡◌, ◌∙◌, sym, ap, subst, refl, ℕ, ◌≤◌, List, [], ◌∷◌, ◌++◌, length, Option, Some, None, Result, Err, IfErr, IfSome, ◌⊎◌, inl, inr, arith}
 use Rattle.std.specs.Option.{option_or}
 use Rattle.zplan.specs.Ranges.{AreWanted, positions}
 use Rattle.zplan.specs.declared.range.Range.{Range}
 use Rattle.zquery.specs.Notation.Faults.{memory}
+use Rattle.zquery.specs.Notation.Laws.{OneQueryOrFault}
 use Rattle.zquery.specs.Notation.Texts.{IsTextFault}
+use Rattle.zquery.specs.Trees.{RpnQuery}
 use Rattle.zquery.specs.declared.notation.error.PqfErrorKind.{PqfErrorKind}
 use Rattle.zquery.specs.declared.notation.error.PqfErrorKind.TheVariants as kinds
-use Rattle.zoom_questions.specs.Askable.{AreAskable, IsAskable, HasFewArcs, AreFit}
+use Rattle.zoom_questions.specs.Askable.{AreAskable, IsAskable, HasFewArcs}
 use Rattle.zmeta_world.specs.Finding.{questions_of}
-use Rattle.zmeta_world.specs.InMemoryRuns.{AreSmall, IsFit}
-use Rattle.zmeta_world.specs.Search.{SearchTexts, IsReplaced, IsRead, IsWanted, IsAskedSyntax, IsElements, IsAskedBy, AreAskedBy, IsWorldWith, IsParsedSearch, IsSearchFault, ReadQueryResult, ReadRecordsResult, ReadSyntaxResult, error_of_kind, asked_with, or_was, dotted_syntax}
+use Rattle.zmeta_world.specs.InMemoryRuns.{IsFit}
+use Rattle.zmeta_world.specs.WorldLines.{syntax_of}
+use Rattle.zmeta_world.specs.WorldWants.{wanted_of}
+use Rattle.zmeta_world.specs.Worlds.{IsQueryOf}
+use Rattle.zmeta_world.specs.Search.{SearchTexts, IsReplaced, IsRead, IsWanted, IsAskedSyntax, IsElements, IsAskedBy, AreAskedBy, IsReadable, IsParsedSearch, IsSearchFault, HasNoFault, HasText, ReadQueryResult, ReadRecordsResult, ReadSyntaxResult, error_of_kind, asked_with, or_was, dotted_syntax}
 use Rattle.zmeta_world.specs.declared.search.Parsed.{Parsed}
 use Rattle.zmeta_world.specs.declared.search.SearchError.{SearchError}
 use Rattle.zmeta_world.specs.declared.search.SearchError.TheVariants as errors
@@ -62,6 +67,39 @@ of_syntax s errors.Memory f r is of h = rw (is, of) tt
 -- a fault of the search stays one
 pub passed : {A : Type 0} (s : SearchTexts) (e f : SearchError) (r : Result A SearchError) → r ≡ Err f → f ≡ e → IsSearchFault s e → IfErr r (IsSearchFault s)
 passed s e f r is of h = rw (is, of) h
+
+-- ---- the texts that were read
+
+means : {A : Type 0} (Means : List ℕ → A → Type 0) (text : Option (List ℕ)) (value : Option A) → IsRead Means text value
+    → IfSome text (λ t. (v : A) × Means t v)
+means Means None value r = tt
+means Means (Some text) None r = absurd r
+means Means (Some text) (Some value) r = (value, r)
+
+pub readable : (s : SearchTexts) (p : Parsed) → IsParsedSearch s p → IsReadable s
+readable s p r = record {
+  query = means IsQueryOf s.query p.query r.query;
+  wanted = means IsWanted s.records p.wanted r.wanted;
+  syntax = means IsAskedSyntax s.syntax p.syntax r.syntax;
+}
+
+-- a text that stands for something has no fault
+no_text_fault : (law : OneQueryOrFault) (text : Option (List ℕ)) (k : PqfErrorKind) (at : ℕ)
+    → IfSome text (λ t. (query : RpnQuery) × IsQueryOf t query)
+    → HasText (λ t. IsTextFault t (record { kind = k; at = at })) text → ⊥
+no_text_fault law None k at r f = f
+no_text_fault law (Some text) k at r f = law.either text r.0 (record { kind = k; at = at }) r.1.0 r.1.1 f
+
+no_value_fault : {A : Type 0} (value : List ℕ → Option A) (text : Option (List ℕ))
+    → IfSome text (λ t. (v : A) × (value t ≡ Some v)) → HasText (λ t. value t ≡ None) text → ⊥
+no_value_fault value None r f = f
+no_value_fault value (Some text) r f = absurd (Prim.cc (sym r.1 ∙ f))
+
+pub no_fault : OneQueryOrFault → (s : SearchTexts) → IsReadable s → HasNoFault s
+no_fault law s r (errors.Query kind at) other f = no_text_fault law s.query kind at r.query f
+no_fault law s r errors.Records other f = no_value_fault wanted_of s.records r.wanted f
+no_fault law s r errors.Syntax other f = no_value_fault (λ t. syntax_of (dotted_syntax t)) s.syntax r.syntax f
+no_fault law s r errors.Memory other f = other refl
 
 -- ---- one question
 
@@ -128,14 +166,11 @@ all_askable s (x ∷ xs) [] a h = absurd a
 
 -- ---- the world
 
-pub fit_with : (s : SearchTexts) (was now : World) → IsFit was → IsWorldWith s was now → IsFit now
-fit_with s was now f w = record {
-  few = omega (arith, f.few, as_many s was.questions now.questions w.questions);
-  askable = all_askable s was.questions now.questions w.questions f.askable;
-  settings = λ name short. let t = f.settings name short in record { name = t.name; steps = omega (arith, t.steps, w.step); most = omega (arith, t.most, w.step); room = omega (arith, t.room, w.window); widest = omega (arith, t.widest, w.window) };
-  small = subst AreSmall (sym w.targets) f.small;
+pub fit_with : (s : SearchTexts) (was : World) (now : List AskedQuestion) → IsFit was → AreAskedBy s was.questions now
+    → IsFit (record was { questions = now })
+fit_with s was now f a = record {
+  few = omega (arith, f.few, as_many s was.questions now a);
+  askable = all_askable s was.questions now a f.askable;
+  settings = f.settings;
+  small = f.small;
 }
-
-pub world_fit : (s : SearchTexts) (was : World) (r : Result World SearchError) → IsFit was → ((now : World) → r ≡ Ok now → IsWorldWith s was now)
-    → (now : World) → r ≡ Ok now → IsFit now
-world_fit s was r f w now is = fit_with s was now f (w now is)

@@ -1,5 +1,5 @@
 -- One search for all questions of a world, in place of what their lines say.
-use Rattle.std.specs.Prelude.{◌≡◌, ◌≢◌, ℕ, if◌then◌else◌, List, [], ◌∷◌, codes, Option, Some, None, Result, Ok, Err}
+use Rattle.std.specs.Prelude.{◌≡◌, ◌≢◌, ℕ, if◌then◌else◌, List, [], ◌∷◌, codes, Option, Some, None, Result, Ok, Err, IfSome}
 use Rattle.std.specs.Option.{option_map, option_or}
 use Rattle.std.specs.Str.{bytes_eq}
 use Rattle.zplan.specs.declared.range.Range.{Range}
@@ -83,8 +83,15 @@ AreAskedBy s [] [] = Unit {0}
 AreAskedBy s (was ∷ olds) (now ∷ news) = IsAskedBy s was now × AreAskedBy s olds news
 AreAskedBy s _ _ = ⊥
 
--- the world with the search put to every question
+-- each text that is given stands for something: a query, wanted positions, a record syntax
+pub record IsReadable (s : SearchTexts) : Type 0 where
+  pub query : IfSome s.query (λ text. (query : RpnQuery) × IsQueryOf text query)
+  pub wanted : IfSome s.records (λ text. (wanted : List Range) × IsWanted text wanted)
+  pub syntax : IfSome s.syntax (λ text. (syntax : Option (List ℕ)) × IsAskedSyntax text syntax)
+
+-- the world with the search put to every question; the texts stand for something also if there is no question
 pub record IsWorldWith (s : SearchTexts) (was now : World) : Type 0 where
+  pub search : IsReadable s
   pub step : now.step ≡ was.step
   pub window : now.window ≡ was.window
   pub targets : now.targets ≡ was.targets
@@ -105,6 +112,10 @@ IsSearchFault s (errors.Query kind at) = HasText (λ text. IsTextFault text (rec
 IsSearchFault s errors.Records = HasText (λ text. wanted_of text ≡ None) s.records
 IsSearchFault s errors.Syntax = HasText (λ text. syntax_of (dotted_syntax text) ≡ None) s.syntax
 IsSearchFault s errors.Memory = Unit {0}
+
+-- no text is at fault
+abbrev pub HasNoFault : SearchTexts → Type 0
+HasNoFault s = (error : SearchError) → error ≢ errors.Memory → IsSearchFault s error → ⊥
 
 -- ---- reading a search
 

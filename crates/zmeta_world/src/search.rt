@@ -4,7 +4,7 @@ ghost use Rattle.std.specs.Prelude.{◌≡◌, IfOk, IfErr};
 ghost use Rattle.std.specs.Option.{option_map};
 ghost use Rattle.zmeta_world.specs.declared.search.SearchError.TheVariants.{Memory};
 ghost use Rattle.zmeta_world.specs.InMemoryRuns.{IsFit};
-ghost use Rattle.zmeta_world.specs.Search.{dotted_syntax, search_texts, error_of, ReadQueryResult, ReadRecordsResult, ReadSyntaxResult, IsParsedSearch, asked_with, AreAskedBy, IsWorldWith, IsSearchFault};
+ghost use Rattle.zmeta_world.specs.Search.{dotted_syntax, search_texts, error_of, ReadQueryResult, ReadRecordsResult, ReadSyntaxResult, IsParsedSearch, asked_with, AreAskedBy, IsReadable, IsWorldWith, IsSearchFault, HasNoFault};
 
 use crate::world::fault::LineFault;
 use crate::world::line::syntax_of;
@@ -15,6 +15,7 @@ use std::alloc::{AllocError, AllocFailed, Global};
 use zber::{Oid, Seq};
 use zoom_questions::Question;
 use zplan::Range;
+use zquery::laws::one_answer;
 use zquery::{PqfError, PqfErrorKind, Query, parse_pqf};
 
 /// What is put to every question of a world, as texts. `None` leaves what the question's line says.
@@ -169,6 +170,19 @@ fn read_search(alloc: Global, search: &Search<'_>) -> Result<Parsed, SearchError
     })
 }
 
+/// Checks that no text of a search is at fault.
+#[tactic(auto, using(crate::proofs::Searching::readable, crate::proofs::Searching::no_fault))]
+fn check_search(alloc: Global, search: &Search<'_>) -> Result<(), SearchError>
+    ensures readable { IfOk result (λ _. IsReadable (search_texts search.now)) }
+    ensures sound { IfOk result (λ _. HasNoFault (search_texts search.now)) }
+    ensures err { IfErr result (IsSearchFault (search_texts search.now)) }
+{
+    let parsed = read_search(alloc, search)?;
+    one_answer();
+    drop(parsed);
+    Ok(())
+}
+
 /// Puts the parts of a search to a question.
 fn asked_with(asked: AskedQuestion, parsed: Parsed) -> AskedQuestion
     ensures { result ≡ asked_with parsed asked }
@@ -229,15 +243,16 @@ impl World {
     ///
     /// Requires a world that `read_world` returned. The result can be planned as that world can.
     ///
-    /// `Query`, `Records` and `Syntax` say which text is at fault, also if there is no question. `Memory` if no memory
-    /// is found.
+    /// `Query`, `Records` and `Syntax` say which text is at fault, also if there is no question: no text is at fault
+    /// after `Ok`. `Memory` if no memory is found.
     pub fn with_search(self, alloc: Global, search: &Search<'_>) -> Result<World, SearchError>
         requires { IsFit self }
         ensures put { IfOk result (IsWorldWith (search_texts search.now) self) }
         ensures fit { IfOk result IsFit }
+        ensures sound { IfOk result (λ _. HasNoFault (search_texts search.now)) }
         ensures err { IfErr result (IsSearchFault (search_texts search.now)) }
     {
-        drop(read_search(alloc, search)?);
+        check_search(alloc, search)?;
         let World {
             step,
             window,

@@ -1,4 +1,4 @@
-use Rattle.std.proofs.Common.{sym, subst, refl}
+use Rattle.std.proofs.Common.{sym, subst}
 use Rattle.zmeta_world.specs.Search.{AreAskedBy, search_texts}
 use Rattle.zmeta_world.proofs.Searching.{fit_with}
 use Rattle.zmeta_world.proofs.world.World.with_search.Goals as goal
@@ -7,11 +7,5 @@ pub returns-clause-fit : goal.returns-clause-fit
 returns-clause-fit c =
     let s = search_texts c.args.search.now in
     let asked = subst (λ z. AreAskedBy s z c.in_ok-questions.questions.items) c.into_vec.ensures c.in_ok-questions.ensures.ok in
-    fit_with s c.args.self (record c.args.self { questions = c.from_vec.result }) c.requires (record {
-      step = refl;
-      window = refl;
-      targets = refl;
-      hosts = refl;
-      questions = subst (AreAskedBy s c.args.self.questions) (sym c.from_vec.ensures) asked;
-      moves = refl;
-    })
+    fit_with s c.args.self c.from_vec.result c.requires
+    (subst (AreAskedBy s c.args.self.questions) (sym c.from_vec.ensures) asked)
