@@ -1,8 +1,9 @@
 #!/usr/bin/env python3
-"""Says whether each wrong body of tests/mutants still changes a text that stands: each `old:` once in its file.
+"""Says whether each wrong body still changes a text that stands: each `old:` once in its file.
 
-The prover tries these edits only on demand (tests/mutants/check), so a changed name could leave one that tries nothing.
-The status is 1 where a text is gone or stands twice.
+The prover tries those of tests/mutants only on demand (tests/mutants/check), and one of crates/*/must-fail that changes
+nothing fails nothing, so a changed name could leave one that tries nothing. The status is 1 where a text is gone or
+stands twice.
 """
 import pathlib
 import sys
@@ -10,8 +11,8 @@ import sys
 TOP = pathlib.Path(__file__).resolve().parents[2]
 
 
-def faults_of(edit):
-    crate, at, number = TOP / "crates" / edit.parent.name, None, 0
+def faults_of(edit, name):
+    crate, at, number = TOP / "crates" / name, None, 0
     for line in edit.read_text(encoding="utf-8").splitlines():
         word, _, text = line.partition(": ")
         if word == "file":
@@ -29,8 +30,10 @@ def faults_of(edit):
 
 
 def main():
-    edits = sorted((TOP / "tests/mutants").glob("*/*.edit"))
-    faults = [f"{edit.relative_to(TOP)}: {fault}" for edit in edits for fault in faults_of(edit)]
+    left = [(edit, edit.parent.name) for edit in (TOP / "tests/mutants").glob("*/*.edit")]
+    tried = [(edit, edit.parts[-3]) for edit in (TOP / "crates").glob("*/must-fail/*.edit")]
+    edits = sorted(left + tried)
+    faults = [f"{edit.relative_to(TOP)}: {fault}" for edit, name in edits for fault in faults_of(edit, name)]
     for fault in faults:
         print(f"mutants: {fault}", file=sys.stderr)
     print(f"mutants: {len(edits)} wrong bodies change a text that stands" if not faults else f"mutants: {len(faults)} faults")
