@@ -39,6 +39,7 @@ test:
 	python3 tests/program/check.py
 	python3 tests/out-of-memory/check.py
 	python3 tests/mutants/texts.py
+	python3 tests/program/pages.py
 
 quick:
 	@echo 'quick: this build is not proved; it asks two catalogues over TCP, in one process'
