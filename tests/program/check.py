@@ -1,6 +1,6 @@
 #!/usr/bin/env python3
-"""Runs the program on rows, whole views, worlds, mutilated records, hosts, a terminal, and streams that fail or are slow, talks to its
-server, and compares what it prints with what is due; and the completions of command lines with rows and with its help.
+"""Runs the program on rows, whole views, worlds, mutilated records, large input, hosts, a terminal, and streams that fail or are slow,
+talks to its server, and compares what it prints with what is due; and the completions of command lines with rows and with its help.
 
     python3 tests/program/check.py       (once the program is built; ZMETA may name another build)
 
@@ -21,6 +21,7 @@ from concurrent.futures import ThreadPoolExecutor
 import completions
 import hosts
 import json_lines
+import large
 import marc_made
 import marc_views
 import names
@@ -169,6 +170,8 @@ def main():
         print(f"program: {count} sessions with its server")
         faults += streams.faults(ZMETA, room)
         print("program: long texts over slow streams")
+        faults += large.faults(ZMETA, room)
+        print(f"program: large input of {len(large.COMMANDS)} commands")
         faults += [it for it in (fault_of_view(room, *it) for it in views.files()) if it]
         print(f"program: {len(views.ALL)} whole views")
         faults += faults_of_large(room)

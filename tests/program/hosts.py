@@ -11,6 +11,7 @@ octet."""
 import asyncio
 import errno
 import os
+import resource
 import socket
 import struct
 import subprocess
@@ -390,6 +391,13 @@ LONG = [
     Case(EVERY, PATIENCE, [IN_ORDER], 3, 6),
 ]
 
+# many connections: how many, of how many records each, the pause before each answer, and the most time of the processor; on the machine of
+# bench/RESULTS.md a quarter of it is taken
+
+Load = namedtuple("Load", "hosts records pause most")
+
+LOADS = [Load(400, 2, 0.2, 0.6), Load(200, 100, 0, 0.8)]
+
 
 class Trials:
     """The program, a folder for world files, threads for runs, and a gate for runs that are alone of their kind."""
@@ -462,6 +470,34 @@ class Trials:
         return faults_of_answer(await self.run(hosts, (), at_once, files), hosts)
 
 
+    async def faults_of_load(self, load, at_once):
+        """What is not as it should be of many connections to one host, which answers each request after a pause, and of the time of the
+        processor that they take. No other run is beside it."""
+        give = partial(one_by_one, pause=load.pause)
+        host = Host("x", [f"record {it}".ljust(600, ".") for it in range(load.records)], None, "answered", give)
+        await host.open()
+        try:
+            names = [f"h{it}" for it in range(load.hosts)]
+            lines = [f"host {it} {host.address}\n" for it in names] + [f'ask {it} d - {load.records} "\\"x\\""\n' for it in names]
+            words = [self.file_of("step 1\n" + "".join(lines)), *(["--at-once"] if at_once else [])]
+            before = time_of_children()
+            answer, _, _ = await asyncio.get_running_loop().run_in_executor(self.pool, self.program, words, None, subprocess.PIPE)
+            used = time_of_children() - before
+        finally:
+            host.close()
+        found = [] if used <= load.most else [f"{used:.2f} s of the processor, and {load.most} s are the most"]
+        listed = len(answer[1].splitlines())
+        if (answer[0], listed, answer[2]) != (0, load.hosts * (load.records + 1), ""):
+            found.append(f"{answer[0]}, {listed} lines: {answer[2][:200]}")
+        return found
+
+
+def time_of_children():
+    """The seconds of the processor that programs took that have ended."""
+    used = resource.getrusage(resource.RUSAGE_CHILDREN)
+    return used.ru_utime + used.ru_stime
+
+
 def faults_of_answer(run, asked, due=None):
     """How what the program answers, and what hosts are sent, differs from what is due, if these are asked."""
     due = due or answer_due(asked)
@@ -494,6 +530,7 @@ async def all_faults(zmeta, room, pool):
         groups[1] += [titled(trials.alone, f"{files} files", way, trials.faults_of_many(files, way)) for files in (256, 40)]
         for kind in ("whole", "one-by-one", "slow", "pieces"):
             groups[1] += [titled(busy, f"four {kind} {it[0]}", way, trials.faults_of_row(kind, it, way)) for it in ROWS]
+    groups.append([titled(trials.alone, f"{it.hosts} hosts of {it.records} records", AT_ONCE, trials.faults_of_load(it, AT_ONCE)) for it in LOADS])
     found = [await asyncio.gather(*runs) for runs in groups]
     return [fault for group in found for some in group for fault in some], sum(len(runs) for runs in groups), trials.again
 

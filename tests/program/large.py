@@ -1,0 +1,170 @@
+#!/usr/bin/env python3
+"""Runs each command on large input: no contract says when memory is found, so a body that gives up for want of it shows here alone.
+
+    ZMETA=PROGRAM python3 tests/program/large.py          (all commands)
+    ZMETA=PROGRAM python3 tests/program/large.py show     (this one)
+
+`show` reads two million digits. The others have 100,000 records of one catalogue each, and `join` prints 200,000 rows, of which standard
+output takes 16 octets at a time. `gives-up` has a wrong body for each command, which its row here finds."""
+
+import os
+import socket
+import subprocess
+import sys
+import tempfile
+import time
+
+from saved import COUNT, MARC21, SEEN, element, of_facts, record
+
+# a run has to end within so many seconds
+MOST = 300
+RECORDS = 100_000
+# of a message for `show`: so many records of so many octets
+SHOWN, SIZE = 80, 12_480
+HERE = os.path.dirname(os.path.abspath(__file__))
+
+
+def octets_of(number):
+    return b"record %06d" % number
+
+
+def rows_of(numbers):
+    return b"".join(b'%d "a" 1 rec %s "d" "%s"\n' % (it, MARC21.encode(), octets_of(it)) for it in numbers)
+
+
+def counted(count):
+    return b'target "a" set 1 count %d\n' % count
+
+
+def saved_of(numbers, *counts):
+    facts = [(COUNT, 0, 1, it) for it in counts]
+    return of_facts(["a"], facts + [(SEEN, 0, 1, it, record(MARC21, octets_of(it), "d")) for it in numbers])
+
+
+def made(room, name, octets):
+    with open(os.path.join(room, name), "wb") as file:
+        file.write(octets)
+    return name
+
+
+def content(room, name):
+    with open(os.path.join(room, name), "rb") as file:
+        return file.read()
+
+
+def run(zmeta, room, words, given=b"", **surroundings):
+    """The status of a command, what it prints, and what it tells."""
+    more = dict(os.environ, **surroundings)
+    ran = subprocess.run([zmeta, *words], input=given, capture_output=True, cwd=room, timeout=MOST, env=more)
+    return ran.returncode, ran.stdout, ran.stderr
+
+
+def show(zmeta, room):
+    records = [b"%06d" % it * (SIZE // 6) for it in range(SHOWN)]
+    front = element(b"\x82", bytes(4)), bytes.fromhex("98 01 %02x 99 01 00 9b 01 00" % SHOWN)
+    message = element(b"\xb9", *front, element(b"\xbc", *(record(MARC21, it) for it in records)))
+    lines = b"".join(b'  rec %s - "%s"\n' % (MARC21.encode(), it) for it in records)
+    due = b"presentResponse 00000000 %d 0 0\n" % SHOWN + lines
+    yield run(zmeta, room, ["show"], message.hex().encode()), (0, due, b"")
+
+
+def pqf(zmeta, room):
+    # an argument has at most 131,071 octets
+    word = b"x" * 120_000
+    status, printed, told = run(zmeta, room, ["pqf", word])
+    text, _, octets = printed.partition(b"\n")
+    yield (status, text, word in bytes.fromhex(octets.decode()), told), (0, b'"%s"' % word, True, b"")
+
+
+def join(zmeta, room):
+    halves = [range(1, RECORDS + 1), range(RECORDS + 1, 2 * RECORDS + 1)]
+    names = [made(room, f"half-{at}.saved", saved_of(it, 2 * RECORDS)) for at, it in enumerate(halves)]
+    shim = os.path.join(room, "narrow.so")
+    subprocess.run(["cc", "-O2", "-shared", "-fPIC", "-o", shim, os.path.join(HERE, "narrow.c"), "-ldl"], check=True)
+    due = counted(2 * RECORDS) + rows_of(range(1, 2 * RECORDS + 1))
+    yield run(zmeta, room, ["join", *names], LD_PRELOAD=shim), (0, due, b"")
+
+
+def records(zmeta, room):
+    name = made(room, "all.saved", saved_of(range(1, RECORDS + 1), RECORDS))
+    yield run(zmeta, room, ["records", name]), (0, b"".join(map(octets_of, range(1, RECORDS + 1))), b"")
+
+
+def entries():
+    return b"".join(b'rec %s "%s"\nfield 4 dune\n' % (MARC21.encode(), octets_of(it)) for it in range(1, RECORDS + 1))
+
+
+def due_of_world(room, found, name):
+    """What a run of the world gave with what is due, and the file that it saved."""
+    whole = range(1, RECORDS + 1)
+    yield found, (0, counted(RECORDS) + rows_of(whole), b"")
+    yield (content(room, name) if os.path.exists(os.path.join(room, name)) else None), saved_of(whole, RECORDS)
+
+
+def world_in_memory(zmeta, room, command):
+    head = b"step 1000\ntarget a 1048576 cn\ndb d\n"
+    world = made(room, "large.world", head + entries() + b"ask a d - %d dune\n" % RECORDS)
+    found = run(zmeta, room, [command, "--save", f"{command}.saved", world])
+    yield from due_of_world(room, found, f"{command}.saved")
+
+
+def run_world(zmeta, room):
+    yield from world_in_memory(zmeta, room, "run")
+
+
+def loop(zmeta, room):
+    yield from world_in_memory(zmeta, room, "loop")
+
+
+def free_port():
+    with socket.create_server(("127.0.0.1", 0)) as it:
+        return it.getsockname()[1]
+
+
+def listens(port):
+    """Waits until a connection is taken there."""
+    for _ in range(600):
+        try:
+            socket.create_connection(("127.0.0.1", port)).close()
+            return
+        except OSError:
+            time.sleep(0.05)
+
+
+def ask(zmeta, room):
+    """`serve` and `ask`: the server takes two connections, of which the first only shows that it listens."""
+    served = made(room, "served.world", b"target a 1048576 cn\ndb d\n" + entries())
+    port = free_port()
+    asked = made(room, "asked.world", b"step 1000\nhost a 127.0.0.1:%d\nask a d - %d dune\n" % (port, RECORDS))
+    server = subprocess.Popen([zmeta, "serve", f"127.0.0.1:{port}", "a", served, "2"], cwd=room, stderr=subprocess.PIPE)
+    listens(port)
+    found = run(zmeta, room, ["ask", "--save", "ask.saved", asked])
+    yield from due_of_world(room, found, "ask.saved")
+    yield (server.wait(MOST), server.stderr.read()), (0, b"")
+
+
+COMMANDS = {"show": show, "pqf": pqf, "join": join, "records": records, "run": run_world, "loop": loop, "ask": ask}
+
+
+def short(found):
+    return str(found)[:200]
+
+
+def faults(zmeta, room, commands=COMMANDS):
+    """What is not as it should be of large input."""
+    for name in commands:
+        for found, due in COMMANDS[name](zmeta, room):
+            if found != due:
+                yield f"large input of {name}: {short(found)}, and {short(due)} is due"
+
+
+def main():
+    begun = time.monotonic()
+    with tempfile.TemporaryDirectory() as room:
+        found = [*faults(os.path.abspath(os.environ["ZMETA"]), room, sys.argv[1:] or COMMANDS)]
+    print(f"large input, in {time.monotonic() - begun:.1f} s", *found, sep="\n")
+    return 1 if found else 0
+
+
+if __name__ == "__main__":
+    sys.exit(main())
