@@ -35,7 +35,7 @@ use Rattle.zknow.specs.declared.tables.keys.SetKey.{SetKey}
 use Rattle.zknow.specs.Known.{counts_at, records_at, is_failed_at, diags_at}
 use Rattle.zknow_titles.specs.declared.rows.Widths.{Widths}
 use Rattle.zknow_titles.specs.Blocks.{joined_behind, joined_by, count_part, shown_count, behind_colon, heading, failure_part, search_text, request_text, block_parts, block_line}
-use Rattle.zknow_titles.specs.Columns.{char_columns, fitting, cut, widest_cut, clipped, width, padded}
+use Rattle.zknow_titles.specs.Columns.{char_columns, fitting, widest_cut, clipped, width, padded}
 use Rattle.zknow_titles.specs.Conditions.{condition_words}
 use Rattle.zknow_titles.specs.Diagnostics.{bib1, behind_number, condition_text, bracketed, diag_words}
 use Rattle.zknow_titles.specs.Entries.{EntryText, plain, syntax_text, counted_octets, other_entry, marc_entry, octets_entry, element_entry, content_entry, body_entry, entry, sutrs, xml, unimarc, is_marc}

@@ -19,7 +19,7 @@ use Rattle.zoom_pool.proofs.Metas.{state_tells}
 use Rattle.zoom_pool.proofs.MetaTakes.{took_within}
 use Rattle.zoom_io.specs.declared.conversation.TalkError.TheVariants as errors
 use Rattle.zoom_io.specs.Devices.{DeviceState, HasFailed, IsUntouched}
-use Rattle.zoom_io.specs.TalkTraces.{ended_well, Stage, Due, Waiting, Over, Ended, IsGoingAt, Talk, TalkStep, HaltedTalk, OutOfMemory, StoppedTalk, BrokenTalk, EndedTalk, CutTalk, AfterTalk, piece_read, input_end, still_partial, takes, same}
+use Rattle.zoom_io.specs.TalkTraces.{ended_well, Stage, Due, Waiting, Over, Ended, IsGoingAt, Talk, TalkStep, HaltedTalk, OutOfMemory, StoppedTalk, BrokenTalk, EndedTalk, CutTalk, AfterTalk, piece_read, input_end, still_partial, take_count, same}
 use Rattle.zoom_io.specs.TalkSteps.{TalkStepAlone}
 use Rattle.zoom_io.specs.declared.conversation.TalkError.{TalkError}
 use Rattle.zoom_io.specs.declared.outgoing.PushError.{PushError}
@@ -28,7 +28,7 @@ use Rattle.zoom_io.specs.Pushing.{IsBroken}
 use Rattle.zoom_io.specs.Talking.{IsWellEnded, AfterSettle, AfterListen, AfterFinish, AfterConverse, talk_error}
 use Rattle.zoom_io.proofs.Taking.{ends_stopped}
 use Rattle.zoom_io.proofs.Completing.{first_partial, later_partial, at_reads}
-use Rattle.zoom_io.proofs.Sending.{Begun, begun_on, Opened, Completed}
+use Rattle.zoom_io.proofs.Sending.{Begun, begun_on, BegunPartial, BegunWhole}
 
 -- The same talk, with a reader that gave nothing more.
 kept : (c n : ℕ) (stage : Stage) (b : MetaLinks) (l l2 l3 k k2 : DeviceState) → Keeps l2.octets l3.octets
@@ -66,7 +66,7 @@ fed_on c old new piece l l2 recorded consumed sound some few held = record {
 
 -- The connection is Closed or Failed after taking a message.
 pub ends_over : (c n turns : ℕ) (a b d : MetaLinks) (l l2 k k2 k3 : DeviceState) → n ≤ turns
-    → Begun c n Due a b l l2 k k2 → Opened c n a b l l2 k k2 → (r : Bool) → AfterSettle c (Ok r) b d k2 k3 → r ≡ true
+    → Begun c n Due a b l l2 k k2 → BegunPartial c n a b l l2 k k2 → (r : Bool) → AfterSettle c (Ok r) b d k2 k3 → r ≡ true
     → AfterConverse c turns (Ok tt) a d l l2 k k3
 ends_over c n turns a b d l l2 k k2 k3 few one first true s e = record {
   on = λ q s' partial h x. over q s' partial h ((s l2).step.on q s' partial h n l k (one.on q s' partial h x));
@@ -80,7 +80,7 @@ ends_over c n turns a b d l l2 k k2 k3 few one first true s e = record {
     over q s' partial h t = record { reads = n; stage = Over; talk = t; at = few; over = t.known.1 }
 
     by : (q : List Question) (s : MetaSettings) (partial : List ℕ) (h : History) → IsGoingAt s c h
-        → ((n ≡ 0) × (t : Talk q s (c ∷ partial) c h n Due b l l2 k k2) × (takes t.more ≡ 0))
+        → ((n ≡ 0) × (t : Talk q s (c ∷ partial) c h n Due b l l2 k k2) × (take_count t.more ≡ 0))
         ⊎ ((0 < n) × Talk q s partial c h n Due b l l2 k k2)
         → Talk q s partial c h n Over d l l2 k k3
     by q s' partial h going (inl z) = (s l2).completes q s' partial h n l k z.1 z.2 going
@@ -94,42 +94,42 @@ waits_on c n a b d l l2 k k2 k3 one true s e = absurd (true≢false e)
 waits_on c n a b d l l2 k k2 k3 one false s e =
     begun_on c n Due Waiting same a b d l l2 l2 k k2 k3 one (s l2).step
 
-pub completed_on : (c n : ℕ) (a b d : MetaLinks) (l l2 k k2 k3 : DeviceState) → Opened c n a b l l2 k k2
-    → (r : Bool) → AfterSettle c (Ok r) b d k2 k3 → r ≡ false → Completed c n Waiting a d l l2 k k3
-completed_on c n a b d l l2 k k2 k3 first true s e = absurd (true≢false e)
-completed_on c n a b d l l2 k k2 k3 first false s e = record {
+pub waits_whole : (c n : ℕ) (a b d : MetaLinks) (l l2 k k2 k3 : DeviceState) → BegunPartial c n a b l l2 k k2
+    → (r : Bool) → AfterSettle c (Ok r) b d k2 k3 → r ≡ false → BegunWhole c n Waiting a d l l2 k k3
+waits_whole c n a b d l l2 k k2 k3 first true s e = absurd (true≢false e)
+waits_whole c n a b d l l2 k k2 k3 first false s e = record {
   on = λ q s' partial h x. by q s' partial h (first.on q s' partial h x);
 }
   where
     by : (q : List Question) (s : MetaSettings) (partial : List ℕ) (h : History)
-        → ((n ≡ 0) × (t : Talk q s (c ∷ partial) c h n Due b l l2 k k2) × (takes t.more ≡ 0))
+        → ((n ≡ 0) × (t : Talk q s (c ∷ partial) c h n Due b l l2 k k2) × (take_count t.more ≡ 0))
         ⊎ ((0 < n) × Talk q s partial c h n Due b l l2 k k2)
         → Talk q s partial c h n Waiting d l l2 k k3
     by q s' partial h (inl z) = (s l2).completes q s' partial h n l k z.1 z.2 tt
     by q s' partial h (inr z) = (s l2).step.on q s' partial h n l k z.1
 
 -- A fact of every talk at this stage holds after n reads, whether or not an earlier take is completed.
-at_opened : (c n : ℕ) (a b : MetaLinks) (l l2 k k2 : DeviceState) (Fact : List ℕ → Type 0)
+at_begun : (c n : ℕ) (a b : MetaLinks) (l l2 k k2 : DeviceState) (Fact : List ℕ → Type 0)
     (q : List Question) (s : MetaSettings) (partial : List ℕ) (h : History)
     → ((some : List ℕ) → Talk q s some c h n Due b l l2 k k2 → Fact some)
-    → ((n ≡ 0) × (t : Talk q s (c ∷ partial) c h n Due b l l2 k k2) × (takes t.more ≡ 0))
+    → ((n ≡ 0) × (t : Talk q s (c ∷ partial) c h n Due b l l2 k k2) × (take_count t.more ≡ 0))
     ⊎ ((0 < n) × Talk q s partial c h n Due b l l2 k k2)
     → Fact (still_partial n c partial)
-at_opened c n a b l l2 k k2 Fact q s partial h holds (inl z) =
+at_begun c n a b l l2 k k2 Fact q s partial h holds (inl z) =
     subst Fact (sym (first_partial n c partial z.0)) (holds (c ∷ partial) z.1)
-at_opened c n a b l l2 k k2 Fact q s partial h holds (inr z) =
+at_begun c n a b l l2 k k2 Fact q s partial h holds (inr z) =
     subst Fact (sym (later_partial n c partial z.0)) (holds partial z.1)
 
 -- A write failed, or no memory was found.
 pub ends_unsettled : (c n turns : ℕ) (a b d : MetaLinks) (l l2 k k2 k3 : DeviceState) → n ≤ turns
-    → Begun c n Due a b l l2 k k2 → Opened c n a b l l2 k k2 → (e : PushError) → AfterSettle c (Err e) b d k2 k3
+    → Begun c n Due a b l l2 k k2 → BegunPartial c n a b l l2 k k2 → (e : PushError) → AfterSettle c (Err e) b d k2 k3
     → IsBroken {A = Bool} c (Err e) d → AfterConverse c turns (Err (talk_error e)) a d l l2 k k3
 ends_unsettled c n turns a b d l l2 k k2 k3 few one first pushes.Write off broken = record {
   on = λ q s partial h x. (n, few, off.on q s partial h n l l2 k (one.on q s partial h x));
   whole = λ q s partial h x. (
     n,
     few,
-    at_opened c n a b l l2 k k2 (λ some. BrokenTalk q s some c h n d l l2 k k3) q s partial h
+    at_begun c n a b l l2 k k2 (λ some. BrokenTalk q s some c h n d l l2 k k3) q s partial h
         (λ some t. off.on q s some h n l l2 k t) (first.on q s partial h x),
   );
   blamed = (subst (λ z. HasFailed z k3.failures) one.writer off.failed, one.reader);
@@ -140,7 +140,7 @@ ends_unsettled c n turns a b d l l2 k k2 k3 few one first pushes.Memory off brok
   whole = λ q s partial h x. (
     n,
     few,
-    at_opened c n a b l l2 k k2 (λ some. HaltedTalk q s some c h n d l l2 k k3) q s partial h
+    at_begun c n a b l l2 k k2 (λ some. HaltedTalk q s some c h n d l l2 k k3) q s partial h
         (λ some t. off l2 q s some h n l k t) (first.on q s partial h x),
   );
   blamed = tt;
@@ -163,7 +163,7 @@ stopped_talk c n stage reason b d l l2 k k2 q s partial h t recorded = record {
 
 -- As many reads gave octets as the limit allows.
 pub ends_at_limit : (c n : ℕ) (a b d : MetaLinks) (l l2 k k2 : DeviceState) → Begun c n Waiting a b l l2 k k2
-    → Completed c n Waiting a b l l2 k k2 → MetaRecorded c (Stopped reasons.Turns) b d
+    → BegunWhole c n Waiting a b l l2 k k2 → MetaRecorded c (Stopped reasons.Turns) b d
     → stop_at d.pool c ≡ Some (states.Failed reasons.Turns) → AfterConverse c n (Err errors.Turns) a d l l2 k k2
 ends_at_limit c n a b d l l2 k k2 one completed recorded is = record {
   on = λ q s partial h x.
@@ -176,7 +176,7 @@ ends_at_limit c n a b d l l2 k k2 one completed recorded is = record {
 
 -- A read failed, or no memory was found.
 pub ends_unread : (c n turns : ℕ) (a b d : MetaLinks) (l l2 l3 k k2 : DeviceState) → n < turns
-    → Begun c n Waiting a b l l2 k k2 → Completed c n Waiting a b l l2 k k2 → (e : TalkError)
+    → Begun c n Waiting a b l l2 k k2 → BegunWhole c n Waiting a b l l2 k k2 → (e : TalkError)
     → AfterListen c (Err e) b d l2 l3 → AfterConverse c turns (Err e) a d l l3 k k2
 ends_unread c n turns a b d l l2 l3 k k2 few one completed errors.Read r = record {
   on = λ q s partial h x. (n, few, failed q s partial h (one.on q s partial h x));
@@ -210,15 +210,15 @@ listened_on c n a b d l l2 l3 k k2 one true h e =
     subst (λ z. Begun c z Due a d l l3 k k2) one_more (begun_on c n Waiting Due suc a b d l l2 l3 k k2 k2 one (h k2))
 listened_on c n a b d l l2 l3 k k2 one false h e = absurd (true≢false (sym e))
 
-pub opened_on : (c n : ℕ) (a b d : MetaLinks) (l l2 l3 k k2 : DeviceState) → Completed c n Waiting a b l l2 k k2
-    → (r : Bool) → AfterListen c (Ok r) b d l2 l3 → r ≡ true → Opened c (n + 1) a d l l3 k k2
-opened_on c n a b d l l2 l3 k k2 completed true r e =
+pub listened_partial : (c n : ℕ) (a b d : MetaLinks) (l l2 l3 k k2 : DeviceState) → BegunWhole c n Waiting a b l l2 k k2
+    → (r : Bool) → AfterListen c (Ok r) b d l2 l3 → r ≡ true → BegunPartial c (n + 1) a d l l3 k k2
+listened_partial c n a b d l l2 l3 k k2 completed true r e =
     let one_more : suc n ≡ n + 1 = omega arith in
     let some : 0 < suc n = omega arith in
-    subst (λ z. Opened c z a d l l3 k k2) one_more (record {
+    subst (λ z. BegunPartial c z a d l l3 k k2) one_more (record {
       on = λ q s partial h x. inr (some, (r k2).on q s partial h n l k (completed.on q s partial h x));
     })
-opened_on c n a b d l l2 l3 k k2 completed false r e = absurd (true≢false (sym e))
+listened_partial c n a b d l l2 l3 k k2 completed false r e = absurd (true≢false (sym e))
 
 -- A stopped connection that did not end well has failed for `Ended`.
 pub cut_off : (state : State) → is_stopped state ≡ true → ended_well state ≡ false → state ≡ states.Failed reasons.Ended
@@ -239,7 +239,7 @@ cut_off (states.Failed reasons.Memory) over e = absurd (true≢false e)
 
 -- The input ended.
 module _ (c n turns : ℕ) (a b : MetaLinks) (l l2 l3 k k2 : DeviceState) (few : n < turns)
-    (one : Begun c n Waiting a b l l2 k k2) (completed : Completed c n Waiting a b l l2 k k2) (still : IsUntouched l2 l3)
+    (one : Begun c n Waiting a b l l2 k k2) (completed : BegunWhole c n Waiting a b l l2 k k2) (still : IsUntouched l2 l3)
     (end : IsAtEnd l3.octets)
   where
     at_end : (d : MetaLinks) → TalkStepAlone c Waiting Ended b d
@@ -319,7 +319,7 @@ module _ (c n turns : ℕ) (a b : MetaLinks) (l l2 l3 k k2 : DeviceState) (few :
         }
 
 pub ends_finished : (c n turns : ℕ) (a b d g : MetaLinks) (l l2 l3 k k2 : DeviceState) → n < turns
-    → Begun c n Waiting a b l l2 k k2 → Completed c n Waiting a b l l2 k k2 → (r : Bool)
+    → Begun c n Waiting a b l l2 k k2 → BegunWhole c n Waiting a b l l2 k k2 → (r : Bool)
     → AfterListen c (Ok r) b d l2 l3 → r ≡ false → (f : Result (Unit {0}) TalkError) → AfterFinish c f d g
     → AfterConverse c turns f a g l l3 k k2
 ends_finished c n turns a b d g l l2 l3 k k2 few one completed true h e f fin = absurd (true≢false e)

@@ -19,7 +19,7 @@ use Rattle.zoom_pool.specs.Transcripts.{Transcript, IsTranscript, Event, Called,
 use Rattle.zoom_pool.specs.History.{History}
 use Rattle.zoom_pool.specs.Metas.{call_events, settings_of}
 use Rattle.zoom_pool.proofs.Pools.{only_same}
-use Rattle.zoom_io.specs.TalkTraces.{Stage, IsGoingAt, TalkTrace, beginning, due_sent, message_taken, none_taken, stop_taken, piece_read, input_end, takes}
+use Rattle.zoom_io.specs.TalkTraces.{Stage, IsGoingAt, TalkTrace, beginning, due_sent, message_taken, none_taken, stop_taken, piece_read, input_end, take_count}
 
 -- ---- calls
 
@@ -92,13 +92,13 @@ going_called s c h (call ∷ calls) going =
     (going_called s c h calls going)
 
 -- Calls are no takes.
-pub takes_called : (c : ℕ) (calls : List Call) (more : History) → takes (call_events c calls ++ more) ≡ takes more
+pub takes_called : (c : ℕ) (calls : List Call) (more : History) → take_count (call_events c calls ++ more) ≡ take_count more
 takes_called c [] more = refl
 takes_called c (call ∷ calls) more = takes_called c calls more
 
 -- Without a take, a talk leaves the connection neither Closed nor Failed.
 pub going_until : {q : List Question} {s : MetaSettings} {c : ℕ} {h more : History} {read written : List ℕ} {n : ℕ}
-    {stage : Stage} → TalkTrace q s c h more read written n stage → takes more ≡ 0 → IsGoingAt s c h
+    {stage : Stage} → TalkTrace q s c h more read written n stage → take_count more ≡ 0 → IsGoingAt s c h
     → IsGoingAt s c (more ++ h)
 going_until beginning none going = going
 going_until {s = s} {c = c} {h = h} (due_sent {more = more} calls octets f idle all) none going =

@@ -15,12 +15,12 @@ use Rattle.zoom_io.specs.declared.outgoing.PushError.{PushError}
 use Rattle.zoom_io.specs.declared.outgoing.PushError.TheVariants as pushes
 use Rattle.zoom_io.specs.declared.talk_steps.Receipt.{Receipt}
 use Rattle.zoom_io.specs.Pushing.{MetaWriteFailed, AfterPush}
-use Rattle.zoom_io.specs.TalkTraces.{Stage, Due, Listening, Talk, TalkStep, HaltStep, IsAllHandedOut, IsGoingBefore, beginning, due_sent, takes, same}
+use Rattle.zoom_io.specs.TalkTraces.{Stage, Due, Listening, Talk, TalkStep, HaltStep, IsAllHandedOut, IsGoingBefore, beginning, due_sent, take_count, same}
 use Rattle.zoom_pool.specs.Links.{waiting_at, waiting_in}
 use Rattle.zoom_pool.proofs.Metas.{slice_some}
 use Rattle.zoom_pool.proofs.Pools.{only_same}
 use Rattle.zoom_io.specs.Talking.{SettleStep, AfterSettle}
-use Rattle.zoom_io.specs.TalkSteps.{WriteFailureStep, SendStep, TakeStep, stage_after, AfterSendDue, AfterTakeMessage, AfterSendAndTake}
+use Rattle.zoom_io.specs.TalkSteps.{WriteFailureStep, SendingStep, TakingStep, receipt_stage, AfterSendDue, AfterTakeMessage, AfterSendAndTake}
 use Rattle.zoom_io.proofs.Going.{takes_called}
 use Rattle.zoom_io.proofs.Starving.{halts_unhanded, halts_after, halted_many}
 
@@ -55,7 +55,7 @@ module _ (hearing : OneTranscript) (E : Type 0) (c n : ℕ) (old mid new : MetaL
 
     pub sent_on : (sink held : DeviceState) → MetaRecorded c (HandedOut octets) mid new
         → Appends sink.octets held.octets octets → held.failures ≡ sink.failures
-        → (left : DeviceState) → SendStep c old new left sink held
+        → (left : DeviceState) → SendingStep c old new left sink held
     sent_on sink held recorded appended sound left = record {
       step = record {
         on = λ q s partial h reads source first t.
@@ -169,13 +169,13 @@ begun_on c n from to f a b d l l2 l3 k k2 k3 one two = record {
 
 -- A take of the connection found no memory before the talk. Before the first read no take was made since, or one was,
 -- and has completed it.
-pub record Opened (c reads : ℕ) (old new : MetaLinks) (source left sink held : DeviceState) : Type 0 where
+pub record BegunPartial (c reads : ℕ) (old new : MetaLinks) (source left sink held : DeviceState) : Type 0 where
   pub on : (q : List Question) (s : MetaSettings) (partial : List ℕ) (h : History) → MetaAfterUpTo q s (c ∷ partial) h old
-      → ((reads ≡ 0) × (t : Talk q s (c ∷ partial) c h reads Due new source left sink held) × (takes t.more ≡ 0))
+      → ((reads ≡ 0) × (t : Talk q s (c ∷ partial) c h reads Due new source left sink held) × (take_count t.more ≡ 0))
       ⊎ ((0 < reads) × Talk q s partial c h reads Due new source left sink held)
 
-pub opened : (c : ℕ) (m : MetaLinks) (source sink : DeviceState) → Opened c 0 m m source source sink sink
-opened c m source sink = record {
+pub begun_partial : (c : ℕ) (m : MetaLinks) (source sink : DeviceState) → BegunPartial c 0 m m source source sink sink
+begun_partial c m source sink = record {
   on = λ q s partial h a. inl (
     refl,
     record {
@@ -192,7 +192,7 @@ opened c m source sink = record {
 }
 
 -- The same, once a take has completed it.
-pub record Completed
+pub record BegunWhole
     (c reads : ℕ) (stage : Stage) (old new : MetaLinks) (source left sink held : DeviceState)
     : Type 0 where
   pub on : (q : List Question) (s : MetaSettings) (partial : List ℕ) (h : History) → MetaAfterUpTo q s (c ∷ partial) h old
@@ -205,23 +205,23 @@ pub record Settling (c n : ℕ) (old new : MetaLinks) (left held then_held : Dev
   pub step : TalkStep c Due Due same old new left left held then_held
   pub taken : (q : List Question) (s : MetaSettings) (partial : List ℕ) (h : History) (reads : ℕ)
       (source sink : DeviceState) (t : Talk q s partial c h reads Due old source left sink held)
-      → takes (step.on q s partial h reads source sink t).more ≡ n + takes t.more
+      → take_count (step.on q s partial h reads source sink t).more ≡ n + take_count t.more
   pub completes : (q : List Question) (s : MetaSettings) (partial : List ℕ) (h : History) (reads : ℕ)
       (source sink : DeviceState) (t : Talk q s (c ∷ partial) c h reads Due old source left sink held)
-      → takes t.more ≡ 0
-      → ((u : Talk q s (c ∷ partial) c h reads Due new source left sink then_held) × (takes u.more ≡ 0))
+      → take_count t.more ≡ 0
+      → ((u : Talk q s (c ∷ partial) c h reads Due new source left sink then_held) × (take_count u.more ≡ 0))
       ⊎ Talk q s partial c h reads Due new source left sink then_held
 
 pub settles_none : (c : ℕ) (m : MetaLinks) (left held : DeviceState) → Settling c 0 m m left held held
 settles_none c m left held = record {
   step = record { on = λ q s partial h reads source sink t. t; reader = refl; writer = refl };
-  taken = λ q s partial h reads source sink t. let e : takes t.more ≡ 0 + takes t.more = omega arith in e;
+  taken = λ q s partial h reads source sink t. let e : take_count t.more ≡ 0 + take_count t.more = omega arith in e;
   completes = λ q s partial h reads source sink t none. inl (t, none);
 }
 
 module _ (c n : ℕ) (old mid new : MetaLinks) (left k k2 k3 : DeviceState) (one : Settling c n old mid left k k2) where
   -- One message more is taken.
-  pub settles_more : TakeStep c Due Due mid new left k2 k3 → Settling c (n + 1) old new left k k3
+  pub settles_more : TakingStep c Due Due mid new left k2 k3 → Settling c (n + 1) old new left k k3
   settles_more two = record {
     step = record {
       on = λ q s partial h reads source sink t.
@@ -230,7 +230,7 @@ module _ (c n : ℕ) (old mid new : MetaLinks) (left k k2 k3 : DeviceState) (one
       writer = two.step.writer ∙ one.step.writer;
     };
     taken = λ q s partial h reads source sink t.
-        counts (takes t.more) _ _ (one.taken q s partial h reads source sink t)
+        counts (take_count t.more) _ _ (one.taken q s partial h reads source sink t)
         (two.taken q s partial h reads source sink (one.step.on q s partial h reads source sink t));
     completes = λ q s partial h reads source sink t none.
         by q s partial h reads source sink (one.completes q s partial h reads source sink t none);
@@ -240,15 +240,15 @@ module _ (c n : ℕ) (old mid new : MetaLinks) (left k k2 k3 : DeviceState) (one
       counts a b d e f = omega (arith, e, f)
 
       by : (q : List Question) (s : MetaSettings) (partial : List ℕ) (h : History) (reads : ℕ) (source sink : DeviceState)
-          → ((u : Talk q s (c ∷ partial) c h reads Due mid source left sink k2) × (takes u.more ≡ 0))
+          → ((u : Talk q s (c ∷ partial) c h reads Due mid source left sink k2) × (take_count u.more ≡ 0))
           ⊎ Talk q s partial c h reads Due mid source left sink k2
-          → ((u : Talk q s (c ∷ partial) c h reads Due new source left sink k3) × (takes u.more ≡ 0))
+          → ((u : Talk q s (c ∷ partial) c h reads Due new source left sink k3) × (take_count u.more ≡ 0))
           ⊎ Talk q s partial c h reads Due new source left sink k3
       by q s partial h reads source sink (inl u) = inr (two.completes q s partial h reads source sink u.0 u.1 tt)
       by q s partial h reads source sink (inr v) = inr (two.step.on q s partial h reads source sink v)
 
   -- The last take.
-  pub settles : (to : Stage) → TakeStep c Due to mid new left k2 k3 → SettleStep c to old new left k k3
+  pub settles : (to : Stage) → TakingStep c Due to mid new left k2 k3 → SettleStep c to old new left k k3
   settles to two = record {
     step = goes_trans c Due Due to same same old mid new left left left k k2 k3 one.step two.step;
     completes = λ q s partial h reads source sink t none going.
@@ -257,7 +257,7 @@ module _ (c n : ℕ) (old mid new : MetaLinks) (left k k2 k3 : DeviceState) (one
     where
       by : (q : List Question) (s : MetaSettings) (partial : List ℕ) (h : History) (reads : ℕ) (source sink : DeviceState)
           → IsGoingBefore to s c h
-          → ((u : Talk q s (c ∷ partial) c h reads Due mid source left sink k2) × (takes u.more ≡ 0))
+          → ((u : Talk q s (c ∷ partial) c h reads Due mid source left sink k2) × (take_count u.more ≡ 0))
           ⊎ Talk q s partial c h reads Due mid source left sink k2
           → Talk q s partial c h reads to new source left sink k3
       by q s partial h reads source sink going (inl u) = two.completes q s partial h reads source sink u.0 u.1 going
@@ -283,11 +283,11 @@ sent_by hearing E c n old mid new sink held (Err pushes.Memory) lt d p = λ left
 
 -- And then a message was taken.
 pub sent_and_taken : (c : ℕ) (receipt : Receipt) (old mid new : MetaLinks) (sink held : DeviceState)
-    → ((left : DeviceState) → SendStep c old mid left sink held) → AfterTakeMessage c receipt mid new
+    → ((left : DeviceState) → SendingStep c old mid left sink held) → AfterTakeMessage c receipt mid new
     → AfterSendAndTake c (Ok receipt) old new sink held
 sent_and_taken c receipt old mid new sink held sent took left =
-    let one : SendStep c old mid left sink held = sent left in
-    let two : TakeStep c Listening (stage_after receipt) mid new left held held = took left held in
+    let one : SendingStep c old mid left sink held = sent left in
+    let two : TakingStep c Listening (receipt_stage receipt) mid new left held held = took left held in
     record {
       step = record {
         on = λ q s partial h reads source first t.
@@ -319,6 +319,6 @@ pub settles_many : (c n : ℕ) (old new : MetaLinks) (sink held : DeviceState) �
 settles_many c n old new sink held most one left q s partial h reads source first t =
     let x : Settling c n old new left sink held = one left in
     let u : Talk q s partial c h reads Due new source left first held = x.step.on q s partial h reads source first t in
-    let count : takes u.more ≡ n + takes t.more = x.taken q s partial h reads source first t in
+    let count : take_count u.more ≡ n + take_count t.more = x.taken q s partial h reads source first t in
     halted_many c new left held q s partial h reads source first u
-    (let many : 2 ^ 64 - 1 ≤ takes u.more = omega (arith, most, count) in many)
+    (let many : 2 ^ 64 - 1 ≤ take_count u.more = omega (arith, most, count) in many)

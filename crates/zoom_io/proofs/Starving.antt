@@ -11,7 +11,7 @@ use Rattle.zoom_pool.specs.Metas.{MetaLinks, MetaAfterUpTo, MetaRecorded, MetaIn
 use Rattle.zoom_pool.proofs.MetaTakes.{more_partial}
 use Rattle.zoom_pool.proofs.Pools.{only_other}
 use Rattle.zoom_io.specs.Devices.{DeviceState}
-use Rattle.zoom_io.specs.TalkTraces.{Stage, Due, Listening, Waiting, Talk, TalkStep, StarvedTalkEvents, uncalled, unhanded, untaken, unfed, unended, too_many, HaltedTalk, HaltStep, takes, same}
+use Rattle.zoom_io.specs.TalkTraces.{Stage, Due, Listening, Waiting, Talk, TalkStep, StarvedTalkEvents, uncalled, unhanded, untaken, unfed, unended, too_many, HaltedTalk, HaltStep, take_count, same}
 use Rattle.zoom_io.specs.TalkSteps.{HaltStepAlone}
 use Rattle.zoom_io.proofs.Apart.{none_both, others_made, others_follow}
 
@@ -46,7 +46,7 @@ module _ (c : ℕ) (new : MetaLinks) (left held : DeviceState) (q : List Questio
         }
 
     -- More messages were taken than memory can hold.
-    pub halted_many : (t : Talk q s partial c h n Due new source left sink held) → 2 ^ 64 - 1 ≤ takes t.more
+    pub halted_many : (t : Talk q s partial c h n Due new source left sink held) → 2 ^ 64 - 1 ≤ take_count t.more
         → HaltedTalk q s partial c h n new source left sink held
     halted_many t many = record {
       more = t.more;

@@ -26,8 +26,8 @@ use Rattle.zoom_pool.proofs.Metas.{transcript_at}
 use Rattle.zoom_pool.proofs.MetaTakes.{took_within}
 use Rattle.zoom_io.specs.declared.talk_steps.Receipt.TheVariants as receipts
 use Rattle.zoom_io.specs.Devices.{DeviceState}
-use Rattle.zoom_io.specs.TalkTraces.{Stage, Due, Listening, Waiting, Over, IsAtStage, IsNextStep, IsStoppedAt, IsGoingBefore, takes, TalkTrace, beginning, due_sent, message_taken, none_taken, stop_taken, piece_read, input_end}
-use Rattle.zoom_io.specs.TalkSteps.{AfterTakeMessage, TakeStep, receipt_of}
+use Rattle.zoom_io.specs.TalkTraces.{Stage, Due, Listening, Waiting, Over, IsAtStage, IsNextStep, IsStoppedAt, IsGoingBefore, take_count, TalkTrace, beginning, due_sent, message_taken, none_taken, stop_taken, piece_read, input_end}
+use Rattle.zoom_io.specs.TalkSteps.{AfterTakeMessage, TakingStep, receipt_of}
 use Rattle.zoom_io.proofs.Going.{going_until}
 use Rattle.zoom_io.proofs.Completing.{IsLive, live_going, message_live, took_whole}
 
@@ -192,8 +192,8 @@ module _ (hearing : OneTranscript) (meeting : OneInput) (c : ℕ) (old new : Met
         → TalkTrace q s c h ((c, Took) ∷ more) read written reads to)
         → ((q : List Question) (s : MetaSettings) (partial : List ℕ) (h more : History) (read written : List ℕ) (reads : ℕ)
         (a : MetaAfterUpTo q s partial (more ++ h) old) → TalkTrace q s c h more read written reads Listening
-        → takes more ≡ 0 → IsGoingBefore to s c h → is_stopped (state_at (a.pool.transcript c)) ≡ false)
-        → (left held : DeviceState) → TakeStep c Listening to old new left held held
+        → take_count more ≡ 0 → IsGoingBefore to s c h → is_stopped (state_at (a.pool.transcript c)) ≡ false)
+        → (left held : DeviceState) → TakingStep c Listening to old new left held held
     goes to stands trace goes_on left held = record {
       step = record {
         on = λ q s partial h reads source sink t. record {
@@ -227,7 +227,7 @@ module _ (hearing : OneTranscript) (meeting : OneInput) (c : ℕ) (old new : Met
       };
     }
 
-    over : IsLast answer → (left held : DeviceState) → TakeStep c Listening Over old new left held held
+    over : IsLast answer → (left held : DeviceState) → TakingStep c Listening Over old new left held held
     over last =
         goes Over (stopped_after last) (λ q s partial h more read written reads a f. stop_taken f)
         (λ q s partial h more read written reads a f none going. going_until f none going (a.pool.transcript c)
@@ -238,14 +238,14 @@ module _ (hearing : OneTranscript) (meeting : OneInput) (c : ℕ) (old new : Met
     next_step step is q s partial h a p transcript = let t = answered q s partial h a p transcript in (t.0, t.1, sym t.2 ∙ is)
 
     message : (step : Step) → answer ≡ Ok step → is_message step ≡ true
-        → (left held : DeviceState) → TakeStep c Listening Due old new left held held
+        → (left held : DeviceState) → TakingStep c Listening Due old new left held held
     message step is m =
         goes Due (λ q s partial h a. tt)
         (λ q s partial h more read written reads a f. message_taken step f (next_step step is q s partial (more ++ h) a) m)
         (λ q s partial h more read written reads a f none going.
         lively (subst IsLive (sym is) (message_live step m)) q s partial (more ++ h) a)
 
-    nothing : answer ≡ Ok steps.Nothing → (left held : DeviceState) → TakeStep c Listening Waiting old new left held held
+    nothing : answer ≡ Ok steps.Nothing → (left held : DeviceState) → TakingStep c Listening Waiting old new left held held
     nothing is =
         goes Waiting (λ q s partial h a. tt)
         (λ q s partial h more read written reads a f. none_taken f (next_step steps.Nothing is q s partial (more ++ h) a))

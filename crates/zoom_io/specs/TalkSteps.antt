@@ -11,7 +11,7 @@ use Rattle.zoom_io.specs.declared.talk_steps.Receipt.TheVariants as receipts
 use Rattle.zoom_io.specs.declared.outgoing.PushError.{PushError}
 use Rattle.zoom_io.specs.declared.outgoing.PushError.TheVariants as errors
 use Rattle.zoom_io.specs.Devices.{DeviceState, HasFailed}
-use Rattle.zoom_io.specs.TalkTraces.{Stage, Due, Listening, Waiting, Over, Talk, TalkStep, HaltStep, CompletingStep, BrokenTalk, takes, same}
+use Rattle.zoom_io.specs.TalkTraces.{Stage, Due, Listening, Waiting, Over, Talk, TalkStep, HaltStep, CompletingStep, BrokenTalk, take_count, same}
 
 -- The receipt of a take that returned this step.
 abbrev pub receipt_of : Step → Receipt
@@ -32,23 +32,23 @@ abbrev pub HaltStepAlone : ℕ → Stage → MetaLinks → MetaLinks → Type 0
 HaltStepAlone c from old new = (left held : DeviceState) → HaltStep c from same old new left left held held
 
 -- The stage after this receipt.
-abbrev pub stage_after : Receipt → Stage
-stage_after receipts.Message = Due
-stage_after receipts.Nothing = Waiting
-stage_after receipts.Over = Over
+abbrev pub receipt_stage : Receipt → Stage
+receipt_stage receipts.Message = Due
+receipt_stage receipts.Nothing = Waiting
+receipt_stage receipts.Over = Over
 
 -- The talk goes on with one take, which completes one that found no memory before the talk.
-pub record TakeStep (c : ℕ) (from to : Stage) (old new : MetaLinks) (left held then_held : DeviceState) : Type 0 where
+pub record TakingStep (c : ℕ) (from to : Stage) (old new : MetaLinks) (left held then_held : DeviceState) : Type 0 where
   pub step : TalkStep c from to same old new left left held then_held
   pub taken : (questions : List Question) (s : MetaSettings) (partial : List ℕ) (h : History) (reads : ℕ)
       (source sink : DeviceState) (t : Talk questions s partial c h reads from old source left sink held)
-      → takes (step.on questions s partial h reads source sink t).more ≡ suc (takes t.more)
+      → take_count (step.on questions s partial h reads source sink t).more ≡ suc (take_count t.more)
   pub completes : CompletingStep c from to old new left held then_held
 
 -- After taking a message: one was accepted, none is waiting, or the connection is Closed or Failed.
 abbrev pub AfterTakeMessage : ℕ → Receipt → MetaLinks → MetaLinks → Type 0
 AfterTakeMessage c receipt old new =
-    (left held : DeviceState) → TakeStep c Listening (stage_after receipt) old new left held held
+    (left held : DeviceState) → TakingStep c Listening (receipt_stage receipt) old new left held held
 
 -- A write failed, after every talk that leads to the old state.
 pub record WriteFailureStep (c : ℕ) (from : Stage) (old new : MetaLinks) (sink held : DeviceState) : Type 0 where
@@ -58,15 +58,15 @@ pub record WriteFailureStep (c : ℕ) (from : Stage) (old new : MetaLinks) (sink
   pub failed : HasFailed sink.failures held.failures
 
 -- The calls that are due are made, and what waits is written: no take.
-pub record SendStep (c : ℕ) (old new : MetaLinks) (left held then_held : DeviceState) : Type 0 where
+pub record SendingStep (c : ℕ) (old new : MetaLinks) (left held then_held : DeviceState) : Type 0 where
   pub step : TalkStep c Due Listening same old new left left held then_held
   pub taken : (questions : List Question) (s : MetaSettings) (partial : List ℕ) (h : History) (reads : ℕ)
       (source sink : DeviceState) (t : Talk questions s partial c h reads Due old source left sink held)
-      → takes (step.on questions s partial h reads source sink t).more ≡ takes t.more
+      → take_count (step.on questions s partial h reads source sink t).more ≡ take_count t.more
 
 -- After making the calls that are due, and writing what waits.
 abbrev pub AfterSendDue : ℕ → Result (Unit {0}) PushError → MetaLinks → MetaLinks → DeviceState → DeviceState → Type 0
-AfterSendDue c (Ok _) old new sink held = (left : DeviceState) → SendStep c old new left sink held
+AfterSendDue c (Ok _) old new sink held = (left : DeviceState) → SendingStep c old new left sink held
 AfterSendDue c (Err errors.Write) old new sink held = WriteFailureStep c Due old new sink held
 AfterSendDue c (Err errors.Memory) old new sink held =
     (left : DeviceState) → HaltStep c Due same old new left left sink held
@@ -74,7 +74,7 @@ AfterSendDue c (Err errors.Memory) old new sink held =
 -- After both: a message was accepted, none is waiting, the connection is Closed or Failed, or sending failed.
 abbrev pub AfterSendAndTake : ℕ → Result Receipt PushError → MetaLinks → MetaLinks → DeviceState → DeviceState → Type 0
 AfterSendAndTake c (Ok receipt) old new sink held =
-    (left : DeviceState) → TakeStep c Due (stage_after receipt) old new left sink held
+    (left : DeviceState) → TakingStep c Due (receipt_stage receipt) old new left sink held
 AfterSendAndTake c (Err errors.Write) old new sink held = WriteFailureStep c Due old new sink held
 AfterSendAndTake c (Err errors.Memory) old new sink held =
     (left : DeviceState) → HaltStep c Due same old new left left sink held

@@ -111,10 +111,10 @@ pub data TalkTrace (questions : List Question) (s : MetaSettings) (c : ℕ) (h :
       → TalkTrace questions s c h ((c, Took) ∷ (c, InputEnded) ∷ more) read written reads Ended
 
 -- the number of takes among these events
-abbrev pub takes : History → ℕ
-takes [] = 0
-takes ((c, Took) ∷ h) = suc (takes h)
-takes (_ ∷ h) = takes h
+abbrev pub take_count : History → ℕ
+take_count [] = 0
+take_count ((c, Took) ∷ h) = suc (take_count h)
+take_count (_ ∷ h) = take_count h
 
 -- A talk so far: its trace after a history, what its devices gave and took, and what is known of the history with the
 -- trace.
@@ -184,7 +184,7 @@ pub data StarvedTalkEvents
       → TalkTrace questions s c h more read written reads Waiting → IsAtEnd left.octets
       → StarvedTalkEvents questions s partial c h left (c ∷ partial) ((c, InputEnded) ∷ more) read written reads
   too_many : {more : History} {read written : List ℕ} {reads : ℕ}
-      → TalkTrace questions s c h more read written reads Due → 2 ^ 64 - 1 ≤ takes more
+      → TalkTrace questions s c h more read written reads Due → 2 ^ 64 - 1 ≤ take_count more
       → StarvedTalkEvents questions s partial c h left partial more read written reads
 
 -- A talk with these new events and this number of reads, until no memory is found; and what is known of the history
@@ -246,7 +246,7 @@ abbrev pub CompletingStep
 CompletingStep c from to old new left held then_held =
     (questions : List Question) (s : MetaSettings) (partial : List ℕ) (h : History) (reads : ℕ)
     (source sink : DeviceState) (t : Talk questions s (c ∷ partial) c h reads from old source left sink held)
-    → takes t.more ≡ 0 → IsGoingBefore to s c h
+    → take_count t.more ≡ 0 → IsGoingBefore to s c h
     → Talk questions s partial c h reads to new source left sink then_held
 
 -- The connections of which a part of the next message may be known after n reads, if connection c was one before: it

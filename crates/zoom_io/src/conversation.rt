@@ -189,9 +189,9 @@ fn converse<R: Source, W: Sink>(
 /// whose octets are known. Before each take, everything sent by then is handed out and written.
 ///
 /// If a take of the connection found no memory before the talk, the first take of the talk completes it, unless the
-/// connection was Closed or Failed by then. So after `Read`, `Ended` and `Turns` what is known of the connection is
-/// what its messages say. After `Ok` this is promised if it was neither Closed nor Failed before the talk, and after
-/// `Write` and `Memory` if a read gave octets.
+/// connection was Closed or Failed by then. The result then promises what it promises without that earlier take:
+/// `Read`, `Ended` and `Turns` always, `Ok` if the connection was neither Closed nor Failed before the talk, `Write`
+/// and `Memory` if a read gave octets.
 ///
 /// Each refusal leaves the connection failed for the same reason. At most one call of a device fails:
 ///

@@ -2,11 +2,11 @@ use Rattle.std.proofs.Common.{◌≡◌, ◌∙◌, ◌<◌, ap, subst, sym, Boo
 use Rattle.std.proofs.lemmas.Result.{err_from_is_err_and}
 use Rattle.zoom_io.specs.TalkTraces.{Due}
 use Rattle.zoom_io.specs.Talking.{AfterConverse}
-use Rattle.zoom_io.proofs.Sending.{Begun, begun, Opened, opened}
+use Rattle.zoom_io.proofs.Sending.{Begun, begun, BegunPartial, begun_partial}
 use Rattle.zoom_io.specs.Devices.{HasNoFailure}
 use Rattle.zoom_io.specs.Blameless.{IfTalkMemory}
 use Rattle.zoom_io.proofs.Blameless.{if_talk, push_to_talk, talk_memory, settled_soundly, ended_soundly}
-use Rattle.zoom_io.proofs.Ending.{ends_over, waits_on, completed_on, ends_unsettled, ends_at_limit, ends_unread, listened_on, opened_on, ends_finished}
+use Rattle.zoom_io.proofs.Ending.{ends_over, waits_on, waits_whole, ends_unsettled, ends_at_limit, ends_unread, listened_on, listened_partial, ends_finished}
 use Rattle.zoom_io.proofs.Others.{others_none, others_more, else_others}
 use Rattle.zoom_io.proofs.conversation.converse.Goals as goal
 
@@ -15,7 +15,7 @@ loop-init g c =
     let source = g.R.Source.state c.args.source.now in
     let sink = g.W.Sink.state c.args.sink.now in (
       begun c.args.c c.args.meta.now source sink,
-      opened c.args.c c.args.meta.now source sink,
+      begun_partial c.args.c c.args.meta.now source sink,
       others_none c.args.c c.args.meta.now.pool,
     )
 
@@ -61,7 +61,7 @@ returns-in_err-listen-clause-talks g c =
     (g.R.Source.state c.loop.source) (g.W.Sink.state c.args.sink.now) (g.W.Sink.state c.loop.sink)
     (g.W.Sink.state c.settle.new.sink) c.loop.invariant.0 c.in_ok-settle.field-0 c.in_ok-settle.ensures.settles
     c.if-branch.false)
-    (completed_on c.args.c c.loop.counter c.args.meta.now c.loop.meta c.settle.new.meta (g.R.Source.state c.args.source.now)
+    (waits_whole c.args.c c.loop.counter c.args.meta.now c.loop.meta c.settle.new.meta (g.R.Source.state c.args.source.now)
     (g.R.Source.state c.loop.source) (g.W.Sink.state c.args.sink.now) (g.W.Sink.state c.loop.sink)
     (g.W.Sink.state c.settle.new.sink) c.loop.invariant.1 c.in_ok-settle.field-0 c.in_ok-settle.ensures.settles
     c.if-branch.false) c.in_err-listen.field-0.0 c.in_err-listen.ensures.listens)
@@ -76,7 +76,7 @@ returns-then-not-branch-clause-talks g c =
     (g.R.Source.state c.loop.source) (g.W.Sink.state c.args.sink.now) (g.W.Sink.state c.loop.sink)
     (g.W.Sink.state c.settle.new.sink) c.loop.invariant.0 c.in_ok-settle.field-0 c.in_ok-settle.ensures.settles
     c.if-branch.false)
-    (completed_on c.args.c c.loop.counter c.args.meta.now c.loop.meta c.settle.new.meta (g.R.Source.state c.args.source.now)
+    (waits_whole c.args.c c.loop.counter c.args.meta.now c.loop.meta c.settle.new.meta (g.R.Source.state c.args.source.now)
     (g.R.Source.state c.loop.source) (g.W.Sink.state c.args.sink.now) (g.W.Sink.state c.loop.sink)
     (g.W.Sink.state c.settle.new.sink) c.loop.invariant.1 c.in_ok-settle.field-0 c.in_ok-settle.ensures.settles
     c.if-branch.false) c.in_ok-listen.field-0 c.in_ok-listen.ensures.listens c.if-not-branch.true c.finish.result
@@ -92,10 +92,10 @@ loop-preserved g c = (
       (g.W.Sink.state c.loop.sink) (g.W.Sink.state c.settle.new.sink) c.loop.invariant.0 c.in_ok-settle.field-0
       c.in_ok-settle.ensures.settles c.if-branch.false) c.in_ok-listen.field-0 c.in_ok-listen.ensures.listens
       c.if-not-branch.false,
-  opened_on c.args.c c.loop.counter c.args.meta.now c.settle.new.meta c.listen.new.meta
+  listened_partial c.args.c c.loop.counter c.args.meta.now c.settle.new.meta c.listen.new.meta
       (g.R.Source.state c.args.source.now) (g.R.Source.state c.loop.source) (g.R.Source.state c.listen.new.source)
       (g.W.Sink.state c.args.sink.now) (g.W.Sink.state c.settle.new.sink)
-      (completed_on c.args.c c.loop.counter c.args.meta.now c.loop.meta c.settle.new.meta
+      (waits_whole c.args.c c.loop.counter c.args.meta.now c.loop.meta c.settle.new.meta
       (g.R.Source.state c.args.source.now) (g.R.Source.state c.loop.source) (g.W.Sink.state c.args.sink.now)
       (g.W.Sink.state c.loop.sink) (g.W.Sink.state c.settle.new.sink) c.loop.invariant.1 c.in_ok-settle.field-0
       c.in_ok-settle.ensures.settles c.if-branch.false) c.in_ok-listen.field-0 c.in_ok-listen.ensures.listens
@@ -138,10 +138,10 @@ returns-clause-talks g c =
     (g.R.Source.state c.loop.source) (g.W.Sink.state c.args.sink.now) (g.W.Sink.state c.loop.sink)) all
     c.loop.invariant.0) c.in_ok-settle-2.field-0
     c.in_ok-settle-2.ensures.settles c.if-branch-2.false)
-    (completed_on c.args.c c.args.turns c.args.meta.now c.loop.meta c.settle-2.new.meta (g.R.Source.state c.args.source.now)
+    (waits_whole c.args.c c.args.turns c.args.meta.now c.loop.meta c.settle-2.new.meta (g.R.Source.state c.args.source.now)
     (g.R.Source.state c.loop.source) (g.W.Sink.state c.args.sink.now) (g.W.Sink.state c.loop.sink)
     (g.W.Sink.state c.settle-2.new.sink)
-    (subst (λ n. Opened c.args.c n c.args.meta.now c.loop.meta (g.R.Source.state c.args.source.now)
+    (subst (λ n. BegunPartial c.args.c n c.args.meta.now c.loop.meta (g.R.Source.state c.args.source.now)
     (g.R.Source.state c.loop.source) (g.W.Sink.state c.args.sink.now) (g.W.Sink.state c.loop.sink)) all
     c.loop.invariant.1) c.in_ok-settle-2.field-0
     c.in_ok-settle-2.ensures.settles c.if-branch-2.false) c.stop.ensures.after c.stop.ensures.stopped
