@@ -26,6 +26,7 @@ import marc_made
 import marc_views
 import names
 import replies
+import saving
 import served
 import streams
 import terminal
@@ -170,6 +171,8 @@ def main():
         print(f"program: {count} sessions with its server")
         faults += streams.faults(ZMETA, room)
         print("program: long texts over slow streams")
+        faults += saving.faults(ZMETA, room)
+        print("program: saved files where saving may fail")
         faults += large.faults(ZMETA, room)
         print(f"program: large input of {len(large.COMMANDS)} commands")
         faults += [it for it in (fault_of_view(room, *it) for it in views.files()) if it]

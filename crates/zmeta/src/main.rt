@@ -13,7 +13,7 @@ use zmeta_commands::fault::Status;
 use zmeta_commands::input::Input;
 use zmeta_commands::output::Output;
 
-fn main(rt: HostRuntime) -> ExitCode {
+fn main(mut rt: HostRuntime) -> ExitCode {
     let arguments = arguments_of(&rt);
     let mut input = Input::new("-", rt.stdin());
     let mut output = Output::new("-", rt.stdout());
@@ -25,7 +25,7 @@ fn main(rt: HostRuntime) -> ExitCode {
     let screen = screen_of(&rt);
     exit_of(run(
         rt.alloc(),
-        &rt,
+        &mut rt,
         given,
         &mut input,
         &mut output,

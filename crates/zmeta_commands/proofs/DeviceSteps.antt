@@ -1,9 +1,9 @@
 -- A text that is written to a stream in pieces.
-use Rattle.std.proofs.Common.{◌≡◌, ℕ, ◌-◌, List, [], ◌++◌, length, take, drop, sym, ap, ◌∙◌, subst, append_assoc, append-nil, take-append-drop, Option, Some, refl}
+use Rattle.std.proofs.Common.{◌≡◌, ℕ, ◌-◌, ◌<◌, arith, inl, inr, List, [], ◌++◌, length, take, drop, sym, ap, ◌∙◌, subst, append_assoc, append-nil, take-append-drop, Option, Some, refl}
 use Rattle.std.proofs.lemmas.List.{take_rest}
 use Rattle.std.specs.Io.KnownBytes.{Appends, Keeps}
 use Rattle.std.proofs.KnownBytes.{Appends-trans, Appends-kept, Appends-nil}
-use Rattle.zoom.specs.Devices.{HasAppendedFront}
+use Rattle.zoom.specs.Devices.{HasAppendedFront, HasFailed}
 use Rattle.zmeta_commands.specs.Pieces.{WritePieceResult}
 
 -- a front of the text was written, and the rest was not
@@ -36,3 +36,8 @@ none_put now text = ([], refl, Appends-nil now)
 
 pub nothing_put : (old new : Option (List ℕ)) → Keeps old new → Appends old new []
 nothing_put old new k = Appends-kept old old new [] (Appends-nil old) k
+
+-- ---- failed calls
+
+pub failed_some : (old new : ℕ) → HasFailed old new → 0 < new
+failed_some old new h = elim h [ inl e ↦ omega (arith, e) | inr e ↦ omega (arith, e) ]

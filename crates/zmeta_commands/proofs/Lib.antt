@@ -2,6 +2,7 @@ pub mod OneShowing
 pub mod Showing
 pub mod Choosing
 mod Picking
+pub mod Terms
 pub mod Joining
 pub mod Extracting
 mod Querying
@@ -9,4 +10,5 @@ pub mod DeviceSteps
 pub mod Reading
 pub mod Troubles
 pub mod Running
+pub mod Listing
 pub mod Calling

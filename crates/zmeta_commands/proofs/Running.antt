@@ -1,95 +1,52 @@
 -- The ends of commands: what a command that asks writes and saves, help, and a target that is served.
-use Rattle.std.proofs.Common.{◌≡◌, ◌∙◌, ap, ℕ, List, [], ◌++◌, Option, Some, None, Result, Ok, Err, IfSome, inl, inr}
-use Rattle.std.specs.Io.KnownBytes.{Appends}
-use Rattle.zmeta_commands.specs.Arguments.{HelpResult}
-use Rattle.zmeta_commands.specs.Devices.{Device, Outputs, PutFailure, PutResult}
-use Rattle.zmeta_commands.specs.Finished.{IsPrinted, PutFinishedResult, IsOfSaving, FinishResult, IsUnmade, HasOctets}
+use Rattle.std.proofs.Common.{◌≡◌, ℕ, List, Option, Some, None, Result, Ok, Err, IfSome, IfErr, inl, inr}
+use Rattle.zmeta_commands.specs.Arguments.{HelpResult, IsTold}
+use Rattle.zmeta_commands.specs.Devices.{Device, PutResult, PutKnownResult}
 use Rattle.zmeta_world.specs.declared.world.World.{World}
 use Rattle.zmeta_world.specs.Worlds.{IsWorld}
-use Rattle.zoom.specs.ServeError.{ServeError}
-use Rattle.zoom.specs.ServeError.TheVariants as serves
-use Rattle.zmeta_commands.specs.Faults.{of_serve}
-use Rattle.zmeta_commands.specs.Serve.{ServeResult, ServeWorldResult, IsServiceEnd}
+use Rattle.zmeta_commands.specs.Serve.{Serves, Wanted, ServeResult, ServeWorldResult, IsUnserved, IsServiceEnd}
 use Rattle.zmeta_commands.specs.declared.fault.Fault.{Fault}
 use Rattle.zmeta_commands.specs.declared.fault.Fault.TheVariants.{Write, Serve, Memory}
-use Rattle.zmeta_commands.specs.declared.finished.Finished.{Finished}
-
--- the list was not written
-pub unput : {M : Type 0} (contents : M → Option (List ℕ)) (r : Finished) (saved : Option (List ℕ))
-    (before after : Outputs) (f : Fault)
-    → PutFinishedResult r before after (Err f) → FinishResult contents r saved before after (Err f)
-unput contents r saved before after (Write path) h = inr h
-unput contents r saved before after Memory h = inl h
-unput contents r saved before after f h = absurd h
-
--- the list was written, and the facts were not saved
-pub unsaved : {M : Type 0} (contents : M → Option (List ℕ)) (r : Finished) (saved : Option (List ℕ))
-    (before after : Outputs) (f : Fault)
-    → IsPrinted r before after → IsOfSaving saved f → FinishResult contents r saved before after (Err f)
-unsaved contents r saved before after (Write path) h s = inl (h, s)
-unsaved contents r saved before after Memory h s = inr (h, s)
-unsaved contents r saved before after f h s = absurd s
-
--- ---- a file that is made
-
-filled : (old new : Option (List ℕ)) (held octets : List ℕ) → old ≡ Some held → IfSome old (λ held. held ≡ [])
-    → Appends old new octets → new ≡ Some octets
-filled None new held octets known empty h = cc
-filled (Some was) None held octets known empty h = absurd h
-filled (Some was) (Some xs) held octets known empty h = ap Some (h ∙ ap (λ z. z ++ octets) empty)
-
--- a new file holds the octets that were written to it
-pub holds : {M : Type 0} (contents : M → Option (List ℕ)) (old new : M) (octets : List ℕ)
-    → IfSome (contents old) (λ held. held ≡ []) → Appends (contents old) (contents new) octets
-    → HasOctets contents new octets
-holds contents old new octets empty h known =
-    filled (contents old) (contents new) (known old).0 octets (known old).1 empty h
-
--- a file that could not be written could not be made
-pub unmade : (old new : Device) (octets path : List ℕ) (f : Fault) → PutFailure old new octets f → old.path ≡ path
-    → IsUnmade path f
-unmade old new octets path (Write told) h is = h.0 ∙ is
-unmade old new octets path f h is = absurd h
 
 -- ---- help
 
 -- the text of help was written, or a front of it
-pub help_put : (old new : Device) (text : List ℕ) (answer : Result (Unit {0}) Fault) → PutResult old new text answer
-    → HelpResult old new answer
-help_put old new text (Ok _) h = (text, h)
-help_put old new text (Err (Write path)) h = (h.0, (text, h.1))
-help_put old new text (Err Memory) h = absurd h
-help_put old new text (Err f) h = absurd h
+pub help_put : (known : Option (List ℕ)) (old new : Device) (text : List ℕ) (answer : Result (Unit {0}) Fault)
+    → IfSome known (λ due. text ≡ due) → PutResult old new text answer → HelpResult known old new answer
+help_put known old new text (Ok _) is h = (text, is, h)
+help_put known old new text (Err (Write path)) is h = (h.0, (text, is, h.1))
+help_put known old new text (Err Memory) is h = absurd h
+help_put known old new text (Err f) is h = absurd h
+
+-- a text was told, or the stream failed
+pub told : (known : Option (List ℕ)) (old new : Device) (answer : Result (Unit {0}) Fault)
+    → PutKnownResult old new known answer → IsTold known old new
+told None old new answer h = tt
+told (Some text) old new (Ok _) h = inr (record { written = h.0; path = h.1; sound = h.2 })
+told (Some text) old new (Err (Write path)) h = inl h.1
+told (Some text) old new (Err f) h = absurd h
 
 -- ---- a target that is served
 
--- no memory was found for a connection, or none could be taken
-pub not_served : (name : List ℕ) (count : ℕ) (world : World) (e : ServeError) (f : Fault)
-    (r : Result (Unit {0}) ServeError) (answer : Result (Unit {0}) Fault) → answer ≡ Err f → f ≡ of_serve e → r ≡ Err e → (count ≡ 0 → r ≡ Ok tt)
-    → ServeWorldResult name count world answer
-not_served name count world e f r answer is of was none = rw (is, of) (by e was)
-  where
-    by : (e : ServeError) → r ≡ Err e → ServeWorldResult name count world (Err (of_serve e))
-    by serves.Listen was = tt
-    by serves.Memory was = λ zero. let done : r ≡ Ok tt = none zero in cc
-
-serves_at : (name octets : List ℕ) (count : ℕ) (world : World) (answer : Result (Unit {0}) Fault)
-    → IsWorld octets world → ServeWorldResult name count world answer → ServeResult name octets answer
-serves_at name octets count world (Ok _) says (target, found) = (world, target, says, found)
-serves_at name octets count world (Err Serve) says told = (world, says)
-serves_at name octets count world (Err Memory) says told = tt
-serves_at name octets count world (Err f) says told = absurd told
+-- only some faults end it
+pub service_end : (path : List ℕ) (answer : Result (Unit {0}) Fault) → IfErr answer IsUnserved → IsServiceEnd path answer
+service_end path (Ok done) end = tt
+service_end path (Err Serve) end = tt
+service_end path (Err Memory) end = tt
+service_end path (Err f) end = absurd end
 
 -- the result if a file has the world
-pub serve_result : (name : List ℕ) (count : ℕ) (file : Option (List ℕ)) (world : World)
-    (answer : Result (Unit {0}) Fault) → IfSome file (λ octets. IsWorld octets world) → ServeWorldResult name count world answer
-    → IfSome file (λ octets. ServeResult name octets answer)
-serve_result name count None world answer says told = tt
-serve_result name count (Some octets) world answer says told = serves_at name octets count world answer says told
+serves_at : (w : Wanted) (how : Serves) (octets : List ℕ) (world : World) (answer : Result (Unit {0}) Fault)
+    → IsWorld octets world → ServeWorldResult how w world answer → IfErr answer IsUnserved
+    → ServeResult how w octets answer
+serves_at w how octets world (Ok done) says told end = (world, says, told)
+serves_at w how octets world (Err Serve) says told end = (world, says, told)
+serves_at w how octets world (Err Memory) says told end = tt
+serves_at w how octets world (Err f) says told end = absurd end
 
-pub service_end : (name path : List ℕ) (count : ℕ) (world : World) (answer : Result (Unit {0}) Fault)
-    → ServeWorldResult name count world answer → IsServiceEnd path answer
-service_end name path count world (Ok _) told = tt
-service_end name path count world (Err Serve) told = tt
-service_end name path count world (Err Memory) told = tt
-service_end name path count world (Err f) told = absurd told
+pub serve_result : (w : Wanted) (how : Serves) (file : Option (List ℕ)) (world : World)
+    (answer : Result (Unit {0}) Fault) → IfSome file (λ octets. IsWorld octets world)
+    → ServeWorldResult how w world answer → IfErr answer IsUnserved
+    → IfSome file (λ octets. ServeResult how w octets answer)
+serve_result w how None world answer says told end = tt
+serve_result w how (Some octets) world answer says told end = serves_at w how octets world answer says told end

@@ -20,7 +20,8 @@ use Rattle.zapdu_lines.specs.Lines.{apdu_text}
 use Rattle.zmeta_commands.specs.Show.{ShownText, nothing_left, apdu, fault, unfinished, no_apdu, malformed, ShowDigitsResult, ShowResult}
 use Rattle.zber.specs.declared.framer.TheConstants.{MESSAGE_LIMIT}
 use Rattle.zmeta_commands.specs.Steps.{ShowNextResult, ShowOctetsResult, PutLinesResult, PrintLinesResult}
-use Rattle.zmeta_commands.specs.Devices.{Device, HasGained, HasStopped, PutFailure, IsOfStream}
+use Rattle.zmeta_commands.specs.Devices.{Device, InputDevice, HasGained, HasStopped, PutFailure, IsOfStream}
+use Rattle.zmeta_commands.proofs.DeviceSteps.{failed_some}
 use Rattle.zmeta_commands.specs.declared.fault.Fault.{Fault}
 use Rattle.zmeta_commands.specs.declared.fault.Fault.TheVariants.{Read, Write, Hex, Frame, Memory}
 
@@ -183,22 +184,22 @@ input_shown (Some ys) input digits octets xs start lines printed old new answer 
     subst (λ z. ShowResult z old new end) (q ∙ k) (text_shown digits octets lines old new answer end d shown (subst (λ z. PrintLinesResult z answer old new end) f p))
 
 -- the stream that a fault names is the one that was written
-ends_whole : {xs text : List ℕ} (input output : Device) (answer : Result (Unit {0}) Fault) → ShownText xs text answer → IsOfStream input output answer
+ends_whole : {xs text : List ℕ} (input : InputDevice) (output : Device) (answer : Result (Unit {0}) Fault) → ShownText xs text answer → IsOfStream input output answer
 ends_whole input output (Err (Read path)) s = absurd (is_end s)
 ends_whole input output (Err (Write path)) s = absurd (is_end s)
 ends_whole input output answer s = tt
 
-ends_stopped : (input old new : Device) (lines : List ℕ) (end : Result (Unit {0}) Fault) → MatchResult end (λ _. ⊥) (PutFailure old new lines) → IsOfStream input new end
+ends_stopped : (input : InputDevice) (old new : Device) (lines : List ℕ) (end : Result (Unit {0}) Fault) → MatchResult end (λ _. ⊥) (PutFailure old new lines) → IsOfStream input new end
 ends_stopped input old new lines (Ok u) p = absurd p
-ends_stopped input old new lines (Err (Write told)) p = (p.0 ∙ sym p.1.path, p.1.failed)
+ends_stopped input old new lines (Err (Write told)) p = (p.0 ∙ sym p.1.path, failed_some old.failures new.failures p.1.failed)
 ends_stopped input old new lines (Err f) p = absurd p
 
-ends_put : (input : Device) (xs start lines printed : List ℕ) (old new : Device) (answer end : Result (Unit {0}) Fault) → ((text : List ℕ) × ShownText xs text answer × (lines ≡ start ++ text)) → PutLinesResult printed answer old new end → IsOfStream input new end
+ends_put : (input : InputDevice) (xs start lines printed : List ℕ) (old new : Device) (answer end : Result (Unit {0}) Fault) → ((text : List ℕ) × ShownText xs text answer × (lines ≡ start ++ text)) → PutLinesResult printed answer old new end → IsOfStream input new end
 ends_put input xs start lines printed old new answer end s p = elim p [
   | inl h ↦ subst (IsOfStream input new) (sym h.0) (ends_whole input new answer s.1)
   | inr h ↦ ends_stopped input old new printed end h
 ]
 
-pub ends_by : (input : Device) (xs start lines printed : List ℕ) (old new : Device) (answer end : Result (Unit {0}) Fault) → ShowOctetsResult xs start lines answer → PrintLinesResult printed answer old new end → IsOfStream input new end
+pub ends_by : (input : InputDevice) (xs start lines printed : List ℕ) (old new : Device) (answer end : Result (Unit {0}) Fault) → ShowOctetsResult xs start lines answer → PrintLinesResult printed answer old new end → IsOfStream input new end
 ends_by input xs start lines printed old new (Err Memory) end s p = subst (IsOfStream input new) (sym p.0) tt
 ends_by input xs start lines printed old new answer end s p = ends_put input xs start lines printed old new answer end s p

@@ -86,6 +86,6 @@ IsOfAsking path _ = ⊥
 
 -- ---- the command
 
--- the streams, the saved file and the status after `ask`, by the contents of files that it makes
-abbrev pub AfterAsk : {M : Type 0} → (M → Option (List ℕ)) → ChoiceTexts → SearchTexts → View → Command
-AfterAsk contents choice search view = AfterCommand contents (AskFileResult choice search view) IsOfAsking
+-- the files made, the streams and the status after `ask`
+abbrev pub AfterAsk : ChoiceTexts → SearchTexts → View → Command
+AfterAsk choice search view = AfterCommand (AskFileResult choice search view) IsOfAsking

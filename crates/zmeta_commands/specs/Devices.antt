@@ -1,7 +1,8 @@
 -- The streams and files that commands read and write, before and after a call.
-use Rattle.std.specs.Prelude.{◌≡◌, ◌⊎◌, ℕ, List, ◌++◌, Option, Bool, true, false, Result, Ok, Err, MatchResult, codes}
+use Rattle.std.specs.Prelude.{◌≡◌, ◌⊎◌, ℕ, ◌<◌, List, ◌++◌, Option, Bool, true, Result, Ok, Err, MatchResult, IfSome, codes, nat_lt}
 use Rattle.std.specs.Io.KnownBytes.{Keeps, Appends}
-use Rattle.zoom.specs.Devices.{HasAppendedFront}
+use Rattle.zoom.specs.Devices.{HasAppendedFront, HasFailed}
+use Rattle.zmeta_commands.specs.Counted.{counted_state}
 use Rattle.zmeta_commands.specs.Faults.{fault_text, end_status}
 use Rattle.zmeta_commands.specs.declared.fault.Fault.{Fault}
 use Rattle.zmeta_commands.specs.declared.fault.Fault.TheVariants.{Read, Write}
@@ -9,19 +10,31 @@ use Rattle.zmeta_commands.specs.declared.fault.Status.{Status}
 use Rattle.zmeta_commands.specs.declared.input.Input.{Input}
 use Rattle.zmeta_commands.specs.declared.output.Output.{Output}
 
--- a stream: its octets left or written, if known; its path; and whether a call of it failed
+-- a stream that is written: the octets written, if known; its path; and how many calls of it failed
 pub record Device : Type 0 where
+  pub known : Option (List ℕ)
+  pub path : List ℕ
+  pub failures : ℕ
+
+-- a stream that is read: its octets left, if known; its path; and whether a call of it failed
+pub record InputDevice : Type 0 where
   pub known : Option (List ℕ)
   pub path : List ℕ
   pub has_failed : Bool
 
 -- a stream that is read, by what its reader has left
-abbrev pub input_device : {R : Type 0} → (R → Option (List ℕ)) → Input R → Device
+abbrev pub input_device : {R : Type 0} → (R → Option (List ℕ)) → Input R → InputDevice
 input_device remaining s = record { known = remaining s.reader; path = s.path.now; has_failed = s.has_failed }
 
 -- a stream that is written, by what its writer holds
 abbrev pub output_device : {W : Type 0} → (W → Option (List ℕ)) → Output W → Device
-output_device contents s = record { known = contents s.writer; path = s.path.now; has_failed = s.has_failed }
+output_device contents s =
+    let state = counted_state contents s.writer in
+    record { known = state.octets; path = s.path.now; failures = state.failures }
+
+-- a call of the stream failed, now or before
+abbrev pub has_broken : Device → Bool
+has_broken s = nat_lt 0 s.failures
 
 -- the streams that a command writes: standard output and standard error, or others in their place
 pub record Outputs : Type 0 where
@@ -30,7 +43,7 @@ pub record Outputs : Type 0 where
 
 -- the streams of a command that also reads one
 pub record Streams : Type 0 where
-  pub input : Device
+  pub input : InputDevice
   pub output : Device
   pub errors : Device
 
@@ -54,32 +67,27 @@ streams remaining contents reported input output errors = record {
   errors = output_device reported errors;
 }
 
--- nothing was written
+-- nothing was written, and no call failed
 pub record IsUnchanged (old new : Device) : Type 0 where
   pub kept : Keeps old.known new.known
   pub path : new.path ≡ old.path
-  pub sound : new.has_failed ≡ old.has_failed
+  pub sound : new.failures ≡ old.failures
 
 -- nothing was written to either stream
 abbrev pub AreUnwritten : Outputs → Outputs → Type 0
 AreUnwritten before after = IsUnchanged before.output after.output × (after.errors ≡ before.errors)
 
--- the whole text was written
+-- the whole text was written, and no call failed
 pub record HasGained (old new : Device) (text : List ℕ) : Type 0 where
   pub written : Appends old.known new.known text
   pub path : new.path ≡ old.path
-  pub sound : new.has_failed ≡ old.has_failed
-
--- the whole text was written, or a front of it
-abbrev pub WritePiecesResult : Option (List ℕ) → Option (List ℕ) → List ℕ → Bool → Type 0
-WritePiecesResult old new text true = Appends old new text
-WritePiecesResult old new text false = HasAppendedFront old new text
+  pub sound : new.failures ≡ old.failures
 
 -- a call of the stream failed after a front of the text was written
 pub record HasStopped (old new : Device) (text : List ℕ) : Type 0 where
   pub written : HasAppendedFront old.known new.known text
   pub path : new.path ≡ old.path
-  pub failed : new.has_failed ≡ true
+  pub failed : HasFailed old.failures new.failures
 
 -- the fault names the stream that failed after a front of the text was written
 abbrev pub PutFailure : Device → Device → List ℕ → Fault → Type 0
@@ -90,14 +98,21 @@ PutFailure old new text _ = ⊥
 abbrev pub PutResult : Device → Device → List ℕ → Result (Unit {0}) Fault → Type 0
 PutResult old new text result = MatchResult result (λ _. HasGained old new text) (PutFailure old new text)
 
--- the line that reports a fault
-abbrev pub fault_line : Fault → List ℕ
-fault_line f = codes "zmeta: " ++ fault_text f ++ codes "\n"
-
 -- a call of the stream failed
 pub record IsBroken (old new : Device) : Type 0 where
   pub path : new.path ≡ old.path
-  pub failed : new.has_failed ≡ true
+  pub failed : HasFailed old.failures new.failures
+
+-- a text, if it is known, was written and no call failed; or the fault names the stream, and a call of it failed
+abbrev pub PutKnownResult : Device → Device → Option (List ℕ) → Result (Unit {0}) Fault → Type 0
+PutKnownResult old new text (Ok _) =
+    IfSome text (Appends old.known new.known) × (new.path ≡ old.path) × (new.failures ≡ old.failures)
+PutKnownResult old new text (Err (Write failed)) = (failed.now ≡ old.path) × IsBroken old new
+PutKnownResult old new text (Err _) = ⊥
+
+-- the line that reports a fault
+abbrev pub fault_line : Fault → List ℕ
+fault_line f = codes "zmeta: " ++ fault_text f ++ codes "\n"
 
 -- the line of a fault was written, or a call of the stream failed
 abbrev pub AfterTell : Device → Device → Fault → Type 0
@@ -115,10 +130,10 @@ AfterReport old new (Err f) = AfterTell old new f
 -- standard error and the status after a command with this result: a fault is reported, and a failure of standard
 -- error makes the status `Refused`, unless it is `Memory`
 abbrev pub AfterEnd : Result Status Fault → Device → Device → Status → Type 0
-AfterEnd result old new status = AfterReport old new result × (status ≡ end_status new.has_failed result)
+AfterEnd result old new status = AfterReport old new result × (status ≡ end_status (has_broken new) result)
 
 -- the stream that a fault names has failed: the one read, or the one written
-abbrev pub IsOfStream : {A : Type 0} → Device → Device → Result A Fault → Type 0
+abbrev pub IsOfStream : {A : Type 0} → InputDevice → Device → Result A Fault → Type 0
 IsOfStream input output (Err (Read failed)) = (failed.now ≡ input.path) × (input.has_failed ≡ true)
-IsOfStream input output (Err (Write failed)) = (failed.now ≡ output.path) × (output.has_failed ≡ true)
+IsOfStream input output (Err (Write failed)) = (failed.now ≡ output.path) × (0 < output.failures)
 IsOfStream input output _ = Unit {0}

@@ -12,7 +12,8 @@ use Rattle.zoom.specs.Reasons.{reason_name}
 use Rattle.zoom.specs.Transcripts.{Transcript, state_at}
 use Rattle.zoom.specs.PoolSteps.{IsStateAt}
 use Rattle.zoom.specs.Metas.{MetaLinks, IsTranscriptValue, is_skipped, is_complete}
-use Rattle.zmeta_commands.specs.Devices.{Device, Outputs, HasGained, HasStopped, AreUnwritten, AfterTellLines, AfterEnd}
+use Rattle.zmeta_commands.specs.Files.{MadeFiles, MakesFile, MakesInPart}
+use Rattle.zmeta_commands.specs.Devices.{Device, Outputs, HasGained, HasStopped, AreUnwritten, AfterTellLines, AfterReport, AfterEnd}
 use Rattle.zmeta_commands.specs.declared.fault.Fault.{Fault}
 use Rattle.zmeta_commands.specs.declared.fault.Fault.TheVariants.{Read, Write, Line, Memory, Query, Wanted, Syntax}
 use Rattle.zmeta_commands.specs.declared.fault.Status.{Status}
@@ -131,60 +132,72 @@ SavedOctetsResult path r (Err (Write failed)) = (failed.now ≡ path) × IsOverL
 SavedOctetsResult path r (Err Memory) = Unit {0}
 SavedOctetsResult path r (Err _) = ⊥
 
--- the file at the path could not be made or written
-abbrev pub IsUnmade : List ℕ → Fault → Type 0
-IsUnmade path (Write failed) = failed.now ≡ path
-IsUnmade path _ = ⊥
+-- a file was made at the path that holds these octets; or not whole, and the fault names the path
+abbrev pub MakeFileResult
+    : MadeFiles → MadeFiles → List ℕ → List ℕ → Result (Unit {0}) Fault → Type 0
+MakeFileResult old new path octets (Ok u) = MakesFile old new (record { path = path; octets = octets })
+MakeFileResult old new path octets (Err (Write failed)) = (failed.now ≡ path) × MakesInPart old new path octets
+MakeFileResult old new path octets (Err _) = ⊥
 
--- the octets that such files hold are always known
-abbrev pub AreFilesKnown : {M : Type 0} → (M → Option (List ℕ)) → Type 0
-AreFilesKnown {M} contents = (file : M) → (octets : List ℕ) × (contents file ≡ Some octets)
+-- exactly one file was made, at the path, and it holds the octets of the saved file; none if no path is given
+abbrev pub HasSavedFile : Finished → Option (List ℕ) → MadeFiles → MadeFiles → Type 0
+HasSavedFile r None old new = new ≡ old
+HasSavedFile r (Some path) old new =
+    (octets : List ℕ) × IsSavedOf r octets × MakesFile old new (record { path = path; octets = octets })
 
--- the file holds these octets and no others, if what such files hold is known
-abbrev pub HasOctets : {M : Type 0} → (M → Option (List ℕ)) → M → List ℕ → Type 0
-HasOctets contents file octets = AreFilesKnown contents → contents file ≡ Some octets
+-- the saved file was not made whole at the path: no file was made, or one there that holds a front of its octets
+abbrev pub IsPartlySaved : Finished → List ℕ → MadeFiles → MadeFiles → Type 0
+IsPartlySaved r path old new =
+    (octets : List ℕ) × IsSavedOf r octets × MakesInPart old new path octets
 
--- no file was made if no path is given; else one that holds the octets of the saved file
-abbrev pub IsMade : {M : Type 0} → (M → Option (List ℕ)) → Finished → Option (List ℕ) → Option M → Type 0
-IsMade contents r None None = Unit {0}
-IsMade contents r (Some path) (Some file) = (octets : List ℕ) × IsSavedOf r octets × HasOctets contents file octets
-IsMade contents r saved made = ⊥
-
--- if a path is given, a file was made that holds the octets of the saved file; `contents` are those of such files
-abbrev pub HasSavedFile : {M : Type 0} → (M → Option (List ℕ)) → Finished → Option (List ℕ) → Type 0
-HasSavedFile {M} contents r saved = (made : Option M) × IsMade contents r saved made
+-- the facts were not saved at the path: no file was made, since an element passes the limits; or none was made whole
+abbrev pub IsUnsaved : Finished → List ℕ → MadeFiles → MadeFiles → Type 0
+IsUnsaved r path old new = (IsOverLimits r × (new ≡ old)) ⊎ IsPartlySaved r path old new
 
 -- the facts are to be saved at some path
 abbrev pub IsToBeSaved : Option (List ℕ) → Type 0
 IsToBeSaved None = ⊥
 IsToBeSaved (Some path) = Unit {0}
 
--- a fault that can end saving: no memory, or the file at the path cannot be written
-abbrev pub IsOfSaving : Option (List ℕ) → Fault → Type 0
-IsOfSaving saved (Write failed) = saved ≡ Some failed.now
-IsOfSaving saved Memory = IsToBeSaved saved
-IsOfSaving saved _ = ⊥
+-- the facts were saved if a path is given; or not, since the file there could not be made, or no memory was found
+abbrev pub SaveResult : Finished → Option (List ℕ) → MadeFiles → MadeFiles → Result (Unit {0}) Fault → Type 0
+SaveResult r saved old new (Ok u) = HasSavedFile r saved old new
+SaveResult r saved old new (Err (Write failed)) = (saved ≡ Some failed.now) × IsUnsaved r failed.now old new
+SaveResult r saved old new (Err Memory) = IsToBeSaved saved × (new ≡ old)
+SaveResult r saved old new (Err _) = ⊥
 
 -- ---- the end of a command
 
--- the list was written, the failed connections reported and the facts saved; or which of these was not done
-abbrev pub FinishResult
-    : {M : Type 0} → (M → Option (List ℕ)) → Finished → Option (List ℕ) → Outputs → Outputs → Result Status Fault
-    → Type 0
-FinishResult contents r saved before after (Ok status) =
-    IsPrinted r before after × IsFinishedStatus r status × HasSavedFile contents r saved
-FinishResult contents r saved before after (Err (Write path)) = (IsPrinted r before after × (saved ≡ Some path.now))
-    ⊎ ((path.now ≡ before.output.path) × IsPartlyPrinted r before after)
-FinishResult contents r saved before after (Err Memory) =
-    AreUnwritten before after ⊎ (IsPrinted r before after × IsToBeSaved saved)
-FinishResult contents r saved before after (Err _) = ⊥
+-- the status after a list that was printed, or the fault for which it was not
+abbrev pub IsListEnd : Finished → Result (Unit {0}) Fault → Result Status Fault → Type 0
+IsListEnd r (Ok u) (Ok status) = IsFinishedStatus r status
+IsListEnd r (Ok u) (Err f) = ⊥
+IsListEnd r (Err f) result = result ≡ Err f
 
--- the streams, the saved file and the status after finished connections; `between` is standard error before a fault
--- is reported
+-- The result after the list and the saved file, and standard error: a fault of the file is the result, and one of the
+-- list is reported then; else a fault of the list is the result.
+abbrev pub IsEndOfBoth
+    : Finished → Result (Unit {0}) Fault → Result (Unit {0}) Fault → Device → Device → Result Status Fault → Type 0
+IsEndOfBoth r printed (Ok u) old new result = IsListEnd r printed result × (new ≡ old)
+IsEndOfBoth r printed (Err f) old new result = (result ≡ Err f) × AfterReport old new printed
+
+-- What became of the list, and, whatever that is, of the saved file; and the result. `listed` is standard error once
+-- the failed connections were reported.
+pub record FinishResult (r : Finished) (saved : Option (List ℕ)) (old new : MadeFiles) (before after : Outputs)
+    (result : Result Status Fault) : Type 0 where
+  pub printed : Result (Unit {0}) Fault
+  pub kept : Result (Unit {0}) Fault
+  pub listed : Device
+  pub list : PutFinishedResult r before (record after { errors = listed }) printed
+  pub file : SaveResult r saved old new kept
+  pub end : IsEndOfBoth r printed kept listed after.errors result
+
+-- the files made, the streams and the status after finished connections; `between` is standard error before a fault is
+-- reported
 abbrev pub AfterFinished
-    : {M : Type 0} → (M → Option (List ℕ)) → Finished → Option (List ℕ) → Outputs → Outputs → Status → Type 0
-AfterFinished contents r saved before after status = (result : Result Status Fault) × (between : Device)
-    × FinishResult contents r saved before (record after { errors = between }) result
+    : Finished → Option (List ℕ) → MadeFiles → MadeFiles → Outputs → Outputs → Status → Type 0
+AfterFinished r saved old new before after status = (result : Result Status Fault) × (between : Device)
+    × FinishResult r saved old new before (record after { errors = between }) result
     × AfterEnd result between after.errors status
 
 -- ---- a command that asks
@@ -203,25 +216,23 @@ IsOfSearchedWorld path Wanted = Unit {0}
 IsOfSearchedWorld path Syntax = Unit {0}
 IsOfSearchedWorld path f = IsOfWorld path f
 
--- the streams, the saved file and the status after the questions were asked with this result: its end, or nothing but
+-- the files made, the streams and the status after the questions were asked with this result: its end, or nothing but
 -- the fault
 abbrev pub AfterAsked
-    : {M : Type 0} → (M → Option (List ℕ)) → Result Finished Fault → Option (List ℕ) → Outputs → Outputs → Status
-    → Type 0
-AfterAsked contents (Ok r) saved before after status = AfterFinished contents r saved before after status
-AfterAsked contents (Err f) saved before after status =
-    (after.output ≡ before.output) × AfterEnd (Err f) before.errors after.errors status
+    : Result Finished Fault → Option (List ℕ) → MadeFiles → MadeFiles → Outputs → Outputs → Status → Type 0
+AfterAsked (Ok r) saved old new before after status = AfterFinished r saved old new before after status
+AfterAsked (Err f) saved old new before after status =
+    (new ≡ old) × (after.output ≡ before.output) × AfterEnd (Err f) before.errors after.errors status
 
--- the streams and the status after a command, by the paths of the world file and the saved file, and the world
--- file's octets
+-- the files made, the streams and the status after a command, by the paths of the world file and the saved file, and
+-- the world file's octets
 abbrev pub Command : Type 1
-Command = List ℕ → Option (List ℕ) → Option (List ℕ) → Outputs → Outputs → Status → Type 0
+Command =
+    List ℕ → Option (List ℕ) → Option (List ℕ) → MadeFiles → MadeFiles → Outputs → Outputs → Status → Type 0
 
--- the streams, the saved file and the status after a command that asks with these results, by the octets of the world
--- file, and with these faults, by its path; `contents` are those of files that the command makes
-abbrev pub AfterCommand
-    : {M : Type 0} → (M → Option (List ℕ)) → (List ℕ → Result Finished Fault → Type 0) → (List ℕ → Fault → Type 0)
-    → Command
-AfterCommand contents says faults world saved file before after status = (asked : Result Finished Fault)
+-- the files made, the streams and the status after a command that asks with these results, by the octets of the world
+-- file, and with these faults, by its path
+abbrev pub AfterCommand : (List ℕ → Result Finished Fault → Type 0) → (List ℕ → Fault → Type 0) → Command
+AfterCommand says faults world saved file old new before after status = (asked : Result Finished Fault)
     × IfSome file (λ octets. says octets asked) × IfErr asked (faults world)
-    × AfterAsked contents asked saved before after status
+    × AfterAsked asked saved old new before after status

@@ -1,5 +1,6 @@
 pub mod Ask
 pub mod Choice
+pub mod Counted
 pub mod Devices
 pub mod Digits
 pub mod Faults

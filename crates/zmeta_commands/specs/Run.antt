@@ -1,5 +1,5 @@
 -- What `run` prints and reports for a world file, and how it ends.
-use Rattle.std.specs.Prelude.{◌⊎◌, ℕ, List, [], Option, Result, Ok, Err}
+use Rattle.std.specs.Prelude.{◌⊎◌, ℕ, List, [], Result, Ok, Err}
 use Rattle.zmeta_args.specs.declared.arguments.View.{View}
 use Rattle.zmeta_world.specs.declared.world.World.{World}
 use Rattle.zmeta_world.specs.declared.in_memory.InMemoryRun.{InMemoryRun}
@@ -7,6 +7,7 @@ use Rattle.zmeta_world.specs.Worlds.{IsRefused}
 use Rattle.zmeta_world.specs.Search.{SearchTexts}
 use Rattle.zmeta_world.specs.InMemoryRuns.{IsInMemoryRun, IsFirstHostLine}
 use Rattle.zoom.specs.Run.{IsRun}
+use Rattle.zoom.specs.RunMade.{IsMovedRunInMemory}
 use Rattle.zoom.specs.RunRounds.{IsCompleteRun}
 use Rattle.zmeta_commands.specs.declared.fault.Fault.{Fault}
 use Rattle.zmeta_commands.specs.declared.fault.Fault.TheVariants.{Read, Line, Memory}
@@ -40,15 +41,14 @@ ReadInMemoryResult search file (Err f) = IsSearchRefusal search f
 abbrev pub IsListedRun : View → InMemoryRun → Finished → Type 0
 IsListedRun view a r = IsRun a.questions a.settings a.targets r.meta × IsListed r.meta a.names [] view r
 
--- the plan was run, and each exchange was complete unless a reply was longer than a message may be
-abbrev pub IsCompleteListedRun : View → InMemoryRun → Finished → Type 0
-IsCompleteListedRun view a r = IsListedRun view a r × IsCompleteRun a.questions a.settings a.targets r.meta
+-- the plan was run, and each exchange was complete unless a reply was longer than a message may be; the run began with
+-- the moves of the plan, in order
+pub record IsCompleteListedRun (view : View) (a : InMemoryRun) (r : Finished) : Type 0 where
+  pub listed : IsListedRun view a r
+  pub whole : IsCompleteRun a.questions a.settings a.targets r.meta
+  pub moved : IsMovedRunInMemory a.questions a.settings a.targets a.moves r.meta
 
--- the world of the file was run
-abbrev pub IsFileRun : SearchTexts → View → List ℕ → Finished → Type 0
-IsFileRun search view file r = (a : InMemoryRun) × IsInMemoryFile search file a × IsListedRun view a r
-
--- the world of the file was run, and each exchange was complete in the same sense
+-- the world of the file was run by its moves, and each exchange was complete in the same sense
 abbrev pub IsCompleteFileRun : SearchTexts → View → List ℕ → Finished → Type 0
 IsCompleteFileRun search view file r = (a : InMemoryRun) × IsInMemoryFile search file a × IsCompleteListedRun view a r
 
@@ -62,6 +62,6 @@ RunFileResult search view file (Err f) = IsSearchRefusal search f
 
 -- ---- the command
 
--- the streams, the saved file and the status after `run`, by the contents of files that it makes
-abbrev pub AfterRun : {M : Type 0} → (M → Option (List ℕ)) → SearchTexts → View → Command
-AfterRun contents search view = AfterCommand contents (RunFileResult search view) IsOfSearchedWorld
+-- the files made, the streams and the status after `run`
+abbrev pub AfterRun : SearchTexts → View → Command
+AfterRun search view = AfterCommand (RunFileResult search view) IsOfSearchedWorld

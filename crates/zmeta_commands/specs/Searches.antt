@@ -1,6 +1,6 @@
 -- What the options of the command line put to every question.
-use Rattle.std.specs.Prelude.{ℕ, zero, suc, ◌-◌, ◌==◌, ◌||◌, if◌then◌else◌, List, [], ◌∷◌, ◌++◌, length, map, codes, Option, Some, None}
-use Rattle.std.specs.List.{flat_map}
+use Rattle.std.specs.Prelude.{ℕ, zero, suc, ◌-◌, ◌==◌, ◌||◌, Bool, if◌then◌else◌, List, [], ◌∷◌, ◌++◌, length, map, codes, Option, Some, None}
+use Rattle.std.specs.List.{flat_map, list_any}
 use Rattle.zmeta_args.specs.declared.arguments.SearchOptions.{SearchOptions}
 use Rattle.zmeta_commands.specs.declared.searches.Term.{Term}
 use Rattle.zmeta_commands.specs.declared.searches.SearchCopy.{SearchCopy}
@@ -19,6 +19,10 @@ term_text term = codes "@attr 1=" ++ term.0 ++ codes " \"" ++ flat_map escaped t
 -- the terms, with their Use attributes
 abbrev pub terms_shown : List Term → List (List ℕ × List ℕ)
 terms_shown terms = map (λ term. (term.attr.now, term.text.now)) terms
+
+-- the term has no text
+abbrev pub is_blank_term : Term → Bool
+is_blank_term term = length term.text.now == 0
 
 -- terms under this Use attribute
 abbrev pub terms_under : List ℕ → List (List ℕ) → List (List ℕ × List ℕ)
@@ -39,10 +43,18 @@ ands (suc n) = ands n ++ codes "@and "
 abbrev pub joined_terms : List (List ℕ × List ℕ) → List ℕ
 joined_terms terms = ands (length terms - 1) ++ flat_map term_text terms
 
--- the query of the options, if they have one: the text of `--query`, or the terms
+-- a term without text
+abbrev pub is_blank : List ℕ × List ℕ → Bool
+is_blank term = length term.1 == 0
+
+-- the terms joined; where one of them has no text, the empty text, which is no query
+unfoldable pub terms_text : List (List ℕ × List ℕ) → List ℕ
+terms_text terms = if list_any is_blank terms then [] else joined_terms terms
+
+-- the query of the terms, if there are any
 abbrev pub terms_query : List (List ℕ × List ℕ) → Option (List ℕ)
 terms_query [] = None
-terms_query (term ∷ terms) = Some (joined_terms (term ∷ terms))
+terms_query (term ∷ terms) = Some (terms_text (term ∷ terms))
 
 -- the query that is given, else the one of the terms
 abbrev pub chosen_query : Option (List ℕ) → List (List ℕ × List ℕ) → Option (List ℕ)

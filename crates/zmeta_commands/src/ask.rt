@@ -30,16 +30,16 @@ use zoom::{Limits, Manner, Meta, MetaSettings, Question, ask};
 /// for readers or lines of JSON, as `view` says. The hosts are asked at once or one after the other, as `choice` says.
 /// If `search` has a query, wanted positions, an element set or a syntax, it replaces that of every question.
 ///
-/// Writes a line on `errors` for each connection that failed. If `paths` has a path `saved`, then makes a saved file of
-/// the facts there, and returns `Done` or `Failed` only if the file holds them all. If nothing is printed or not all is
-/// saved, writes the reason on `errors`.
+/// Writes a line on `errors` for each connection that failed. If `paths` has a path `saved`, then makes one file
+/// there, the saved file of the facts, and returns `Done` or `Failed` only if it holds them all. Makes no other file.
+/// If nothing is printed or not all is saved, writes the reason on `errors`.
 ///
 /// Returns `Refused` if a file or a stream failed, `errors` too. Else returns `Failed` if a search, an association or a
 /// connection failed, a host closed a connection first, or a chosen question was not asked. While it asks, it writes
 /// its progress on `screen`, if there is one.
 pub fn ask_named<'a, 'o: 'a, S: Folder + Net + Clock, W: Write, E: Write, P: Write + Drop>(
     alloc: Global,
-    system: &'a S,
+    system: &mut S,
     paths: Paths<'a>,
     choice: Choice<'a, '_>,
     search: &SearchOptions<'_>,
@@ -48,9 +48,9 @@ pub fn ask_named<'a, 'o: 'a, S: Folder + Net + Clock, W: Write, E: Write, P: Wri
     output: &mut Output<'o, W>,
     errors: &mut Output<'_, E>,
 ) -> Status
-    ensures { AfterAsk S.Made.contents (choice_texts choice.entry) (search_of search.now) view paths.entry.world.now
-        (option_map (λ path. path.now) paths.entry.saved)
-        (S.octets system.now paths.entry.world.now) (outputs W.contents E.contents output.old errors.old)
+    ensures { AfterAsk (choice_texts choice.entry) (search_of search.now) view paths.entry.world.now
+        (option_map (λ path. path.now) paths.entry.saved) (S.octets system.old paths.entry.world.now)
+        (S.made system.old) (S.made system.new) (outputs W.contents E.contents output.old errors.old)
         (outputs W.contents E.contents output.new errors.new) result }
 {
     let asked = ask_file(alloc, system, paths.world, choice, search, view, screen);
@@ -60,7 +60,7 @@ pub fn ask_named<'a, 'o: 'a, S: Folder + Net + Clock, W: Write, E: Write, P: Wri
 /// Asks the hosts of the file at a path.
 fn ask_file<'a, S: Folder + Net + Clock, P: Write + Drop>(
     alloc: Global,
-    system: &'a S,
+    system: &S,
     path: &'a str,
     choice: Choice<'a, '_>,
     search: &SearchOptions<'_>,
@@ -79,7 +79,7 @@ fn ask_file<'a, S: Folder + Net + Clock, P: Write + Drop>(
 /// Reads the file at a path, puts the search to its questions, and plans a network run of its world.
 fn read_network<'a, F: Folder>(
     alloc: Global,
-    files: &'a F,
+    files: &F,
     path: &'a str,
     search: &SearchOptions<'_>,
 ) -> Result<NetworkRun, Fault<'a>>
@@ -144,7 +144,7 @@ fn ask_watched<N: Net + Clock, C: Clock, P: Write + Drop>(
     requires equal { length addresses.now ≡ length questions.items }
     ensures { IfOk result (λ meta. IsAsked questions.items settings manner limits addresses.now meta) }
 {
-    let meta = ask(
+    let asked = ask(
         alloc,
         net,
         questions,
@@ -155,5 +155,5 @@ fn ask_watched<N: Net + Clock, C: Clock, P: Write + Drop>(
         &mut progress,
     )?;
     progress.wipe();
-    Ok(meta)
+    Ok(asked.meta)
 }

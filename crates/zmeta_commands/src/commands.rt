@@ -2,9 +2,11 @@
 ghost use Rattle.std.specs.Prelude.{◌≡◌, Err, IfErr, IfOk, MatchResult, map, string_bytes};
 ghost use Rattle.zmeta_commands.specs.Devices.{output_device, outputs, streams};
 ghost use Rattle.zmeta_commands.specs.Arguments.{AfterCall, AfterArguments, AfterUsage, IsWrong};
+ghost use Rattle.zmeta_commands.specs.Serve.{ServedAt};
 
 use crate::ask::ask_named;
 use crate::choice::{Choice, limits_of, manner_of};
+use crate::doors::Doors;
 use crate::fault::{Fault, Status};
 use crate::files::Folder;
 use crate::finished::Paths;
@@ -33,17 +35,18 @@ use zmeta_args::{Arguments, odd_arguments, parse};
 /// or `Memory`.
 ///
 /// `ask` writes its progress on `screen`, if there is one.
-pub fn run<'a, S: Folder + Net + Clock, R: Read, W: Write, E: Write, P: Write + Drop>(
+pub fn run<'a, S: Folder + Doors + Net + Clock, R: Read, W: Write, E: Write, P: Write + Drop>(
     alloc: Global,
-    system: &S,
+    system: &mut S,
     arguments: Result<&[String], ErrorKind>,
     input: &mut Input<'a, R>,
     output: &mut Output<'a, W>,
     errors: &mut Output<'a, E>,
     screen: Option<P>,
 ) -> Status
-    ensures done { IfOk arguments.entry (λ arguments. AfterArguments S.Made.contents (S.octets system.now)
-        (map string_bytes arguments.now)
+    ensures done { IfOk arguments.entry (λ arguments. AfterArguments
+        S.Stream (ServedAt S S.Client S.IsAt (S.IsShut system.old)) (S.octets system.old)
+        (map string_bytes arguments.now) (S.made system.old) (S.made system.new)
         (streams R.remaining W.contents E.contents input.old output.old errors.old)
         (streams R.remaining W.contents E.contents input.new output.new errors.new) result) }
     ensures wrong { IfErr arguments.entry (λ _. IsWrong result) }
@@ -51,6 +54,7 @@ pub fn run<'a, S: Folder + Net + Clock, R: Read, W: Write, E: Write, P: Write + 
     ensures silent { IfErr arguments.entry (λ _. output_device W.contents output.new
         ≡ output_device W.contents output.old) }
     ensures unread { IfErr arguments.entry (λ _. input.new ≡ input.old) }
+    ensures unmade { IfErr arguments.entry (λ _. S.made system.new ≡ S.made system.old) }
 {
     match arguments {
         Ok(arguments) => run_arguments(alloc, system, arguments, input, output, errors, screen),
@@ -59,16 +63,17 @@ pub fn run<'a, S: Folder + Net + Clock, R: Read, W: Write, E: Write, P: Write + 
 }
 
 /// Runs the command that the arguments ask for.
-fn run_arguments<'a, S: Folder + Net + Clock, R: Read, W: Write, E: Write, P: Write + Drop>(
+fn run_arguments<'a, S: Folder + Doors + Net + Clock, R: Read, W: Write, E: Write, P: Write + Drop>(
     alloc: Global,
-    system: &S,
+    system: &mut S,
     arguments: &[String],
     input: &mut Input<'a, R>,
     output: &mut Output<'a, W>,
     errors: &mut Output<'a, E>,
     screen: Option<P>,
 ) -> Status
-    ensures { AfterArguments S.Made.contents (S.octets system.now) (map string_bytes arguments.now)
+    ensures { AfterArguments S.Stream (ServedAt S S.Client S.IsAt (S.IsShut system.old)) (S.octets system.old)
+        (map string_bytes arguments.now) (S.made system.old) (S.made system.new)
         (streams R.remaining W.contents E.contents input.old output.old errors.old)
         (streams R.remaining W.contents E.contents input.new output.new errors.new) result }
 {
@@ -77,9 +82,9 @@ fn run_arguments<'a, S: Folder + Net + Clock, R: Read, W: Write, E: Write, P: Wr
 }
 
 /// Runs the command that was asked for, or reports why there is none.
-fn run_parsed<'a, S: Folder + Net + Clock, R: Read, W: Write, E: Write, P: Write + Drop>(
+fn run_parsed<'a, S: Folder + Doors + Net + Clock, R: Read, W: Write, E: Write, P: Write + Drop>(
     alloc: Global,
-    system: &S,
+    system: &mut S,
     asked: Result<Arguments<'_>, Error>,
     input: &mut Input<'a, R>,
     output: &mut Output<'a, W>,
@@ -87,10 +92,12 @@ fn run_parsed<'a, S: Folder + Net + Clock, R: Read, W: Write, E: Write, P: Write
     screen: Option<P>,
 ) -> Status
     ensures { MatchResult asked.entry
-        (λ asked. AfterCall S.Made.contents (S.octets system.now) asked
+        (λ asked. AfterCall S.Stream (ServedAt S S.Client S.IsAt (S.IsShut system.old)) (S.octets system.old) asked
+        (S.made system.old) (S.made system.new)
         (streams R.remaining W.contents E.contents input.old output.old errors.old)
         (streams R.remaining W.contents E.contents input.new output.new errors.new) result)
-        (λ error. (input.new ≡ input.old) × AfterUsage error (outputs W.contents E.contents output.old errors.old)
+        (λ error. (S.made system.new ≡ S.made system.old) × (input.new ≡ input.old)
+        × AfterUsage error (outputs W.contents E.contents output.old errors.old)
         (outputs W.contents E.contents output.new errors.new) result) }
 {
     match asked {
@@ -120,16 +127,17 @@ fn refuse<'a, W: Write, E: Write>(
 }
 
 /// Runs a command with its arguments.
-fn call<'a, S: Folder + Net + Clock, R: Read, W: Write, E: Write, P: Write + Drop>(
+fn call<'a, S: Folder + Doors + Net + Clock, R: Read, W: Write, E: Write, P: Write + Drop>(
     alloc: Global,
-    system: &S,
+    system: &mut S,
     asked: Arguments<'_>,
     input: &mut Input<'a, R>,
     output: &mut Output<'a, W>,
     errors: &mut Output<'a, E>,
     screen: Option<P>,
 ) -> Status
-    ensures { AfterCall S.Made.contents (S.octets system.now) asked.entry
+    ensures { AfterCall S.Stream (ServedAt S S.Client S.IsAt (S.IsShut system.old)) (S.octets system.old) asked.entry
+        (S.made system.old) (S.made system.new)
         (streams R.remaining W.contents E.contents input.old output.old errors.old)
         (streams R.remaining W.contents E.contents input.new output.new errors.new) result }
 {

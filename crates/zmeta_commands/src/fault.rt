@@ -1,7 +1,7 @@
 //! Why a command stopped, and the status that it ends with.
 ghost use Rattle.std.specs.Prelude.{◌≡◌, Some};
 ghost use Rattle.zmeta_commands.specs.Faults.{code_of, status_of, own_status, as_done, fault_text, of_frame, of_apdu, of_query, of_print, of_build, of_load, of_world, of_search, of_serve};
-ghost use Rattle.zmeta_commands.specs.Devices.{output_device, AfterTell, AfterEnd};
+ghost use Rattle.zmeta_commands.specs.Devices.{output_device, AfterTell, AfterReport, AfterEnd};
 ghost use Rattle.zmeta_commands.specs.declared.fault.Fault.TheVariants.{Memory};
 
 use crate::output::Output;
@@ -281,13 +281,22 @@ impl Fault<'_> {
     }
 }
 
+/// Reports the fault that this result is, if it is one.
+pub(crate) fn report_failure<E: Write>(done: Result<(), Fault<'_>>, errors: &mut Output<'_, E>)
+    ensures { AfterReport (output_device E.contents errors.old) (output_device E.contents errors.new) done.entry }
+{
+    if let Err(fault) = done {
+        errors.write_fault(&fault);
+    }
+}
+
 /// Ends a command: reports the fault that stopped it, and returns its status. That is `Refused` if a write of
 /// `errors` failed, unless it is `Memory`.
 pub(crate) fn end<E: Write>(done: Result<Status, Fault<'_>>, errors: &mut Output<'_, E>) -> Status
     ensures { AfterEnd done.entry (output_device E.contents errors.old) (output_device E.contents errors.new) result }
 {
     match done {
-        Ok(status) => status.after_errors(errors.has_failed),
+        Ok(status) => status.after_errors(errors.has_failed()),
         Err(fault) => fault.report(errors),
     }
 }

@@ -1,53 +1,102 @@
 //! Files by their paths. A file opens at its first read, so a file that cannot be opened is a file that cannot be
-//! read.
-ghost use Rattle.std.specs.Prelude.{◌≡◌, ℕ, List, [], Option, None, IfOk, IfSome};
-ghost use Rattle.zmeta_commands.specs.Files.{opened_left};
+//! read. A file is made by one call, with all its octets.
+ghost use Rattle.std.specs.Prelude.{◌≡◌, ℕ, List, Option, None, IfOk};
+ghost use Rattle.zmeta_commands.specs.Files.{opened_left, MadeFile, MakeResult};
 
 use crate::input::Input;
 use std::fs::File;
-use std::io;
 use std::io::{ErrorKind, Read, Write};
+use std::{fs, io};
 
 /// The files of a system, by their paths.
 pub trait Folder {
     type File: Read + Drop;
 
-    type Made: Write + Drop;
-
     /// The octets of the file at a path, if they are known.
     ghost octets: { Self → List ℕ → Option (List ℕ) } = { λ _ _. None };
+
+    /// The files made so far, oldest first, if they are known.
+    ghost made: { Self → Option (List MadeFile) } = { λ _. None };
 
     /// Opens the file at a path for reading, at its first octet.
     fn open(&self, path: &str) -> io::Result<Self::File>
         ensures { IfOk result (λ file. Self.File.remaining file ≡ octets self.now path.now) };
 
-    /// Creates an empty file at a path for writing. A file that is there already is emptied.
-    fn create(&self, path: &str) -> io::Result<Self::Made>
-        ensures { IfOk result (λ file. IfSome (Self.Made.contents file) (λ octets. octets ≡ [])) };
+    /// Makes a file at a path with these contents. A file that is there already is replaced. If that fails, no file is
+    /// made, or one that holds a front of the contents.
+    fn make(&mut self, path: &str, contents: &[u8]) -> io::Result<()>
+        ensures { MakeResult (made self.old) (made self.new) path.now contents.now result };
 }
 
 impl Folder for HostRuntime {
     type File = File;
 
-    type Made = File;
-
     fn open(&self, path: &str) -> io::Result<File> {
         File::open(self, path)
     }
 
-    fn create(&self, path: &str) -> io::Result<File> {
-        File::create(self, path)
+    /// A regular file is replaced once the new one is whole, and keeps its permissions. What is no regular file, as a
+    /// device, a pipe or a link, is written as it is.
+    fn make(&mut self, path: &str, contents: &[u8]) -> io::Result<()> {
+        match is_replaceable(self, path) {
+            true => replace(self, path, contents),
+            false => write_over(self, path, contents),
+        }
     }
 }
 
+/// Whether a regular file is at the path, or nothing.
+fn is_replaceable(files: &HostRuntime, path: &str) -> bool {
+    match fs::symlink_metadata(files, path) {
+        Ok(found) => found.is_file(),
+        Err(error) => error.kind() == ErrorKind::NotFound,
+    }
+}
+
+/// Writes the contents into what is at the path, or makes a file there.
+fn write_over(files: &HostRuntime, path: &str, contents: &[u8]) -> io::Result<()> {
+    let mut file = File::create(files, path)?;
+    file.write_all(contents)
+}
+
+/// Makes a file beside the path, and then gives it the path. Where none can be made beside it, writes at the path.
+fn replace(files: &HostRuntime, path: &str, contents: &[u8]) -> io::Result<()> {
+    let mut beside = String::new(files.alloc());
+    beside.push_str(path)?;
+    beside.push_str(".part")?;
+    // A run that was broken off may have left one.
+    let _ = fs::remove_file(files, beside.as_str());
+    let Ok(file) = File::create_new(files, beside.as_str()) else {
+        return write_over(files, path, contents);
+    };
+    let moved = fill(files, path, file, contents).and_then(|_| fs::rename(
+        files,
+        beside.as_str(),
+        path,
+    ));
+    if moved.is_err() {
+        let _ = fs::remove_file(files, beside.as_str());
+    }
+    moved
+}
+
+/// Writes the contents of a new file, which gets the permissions of an older one at the path.
+fn fill(files: &HostRuntime, path: &str, mut file: File, contents: &[u8]) -> io::Result<()> {
+    if let Ok(older) = fs::metadata(files, path) {
+        file.set_permissions(older.permissions())?;
+    }
+    file.write_all(contents)?;
+    file.sync_all()
+}
+
 /// A file that opens at its first read.
-pub(crate) struct NamedFile<'a, F: Folder> {
-    files: &'a F,
+pub(crate) struct NamedFile<'f, 'a, F: Folder> {
+    files: &'f F,
     path: &'a str,
     file: Option<F::File>,
 }
 
-impl<F: Folder> Drop for NamedFile<'_, F> {
+impl<F: Folder> Drop for NamedFile<'_, '_, F> {
     fn drop(self) {
         let NamedFile {
             files: _,
@@ -57,7 +106,7 @@ impl<F: Folder> Drop for NamedFile<'_, F> {
     }
 }
 
-impl<F: Folder> Read for NamedFile<'_, F> {
+impl<F: Folder> Read for NamedFile<'_, '_, F> {
     ghost remaining = { λ s. opened_left F.File.remaining (F.octets s.files.now s.path.now) s.file };
 
     fn read(&mut self, buf: &mut [u8]) -> io::Result<usize> {
@@ -72,7 +121,10 @@ impl<F: Folder> Read for NamedFile<'_, F> {
 }
 
 /// Returns the file at a path as an `Input`. It is not opened yet.
-pub(crate) fn file_at<'a, F: Folder>(files: &'a F, path: &'a str) -> Input<'a, NamedFile<'a, F>>
+pub(crate) fn file_at<'f, 'a, F: Folder>(
+    files: &'f F,
+    path: &'a str,
+) -> Input<'a, NamedFile<'f, 'a, F>>
     ensures path { result.path ≡ path.entry }
     ensures octets { opened_left F.File.remaining (F.octets result.reader.files.now result.reader.path.now)
         result.reader.file ≡ F.octets files.now path.now }

@@ -1,12 +1,12 @@
 //! The end of a command that asks: prints the list, reports failed connections, and saves the facts.
 
-ghost use Rattle.std.specs.Prelude.{◌≡◌, IfOk, IfErr, MatchResult, Ok, Err};
+ghost use Rattle.std.specs.Prelude.{◌≡◌, IfOk, MatchResult, Ok, Err};
 ghost use Rattle.std.specs.Option.{option_map};
 ghost use Rattle.zmeta_commands.specs.Devices.{outputs};
-ghost use Rattle.zmeta_commands.specs.Finished.{HasNames, IsListed, PutFinishedResult, IsOfSaving, SavedOctetsResult, IsUnmade, HasOctets, IsMade, FinishResult, AfterAsked};
+ghost use Rattle.zmeta_commands.specs.Finished.{HasNames, IsListed, PutFinishedResult, SavedOctetsResult, MakeFileResult, SaveResult, FinishResult, AfterAsked};
 
 use crate::failures::failure_lines;
-use crate::fault::{Fault, Status, end};
+use crate::fault::{Fault, Status, end, report_failure};
 use crate::files::Folder;
 use crate::output::Output;
 use crate::trouble::finished_status;
@@ -102,81 +102,82 @@ fn saved_octets<'a>(alloc: Global, path: &'a str, finished: &Finished) -> Result
     }
 }
 
-/// Makes a file that holds these octets. `Write` with its path if it cannot be made or written.
+/// Makes a file at a path that holds these octets. `Write` with the path if that fails.
 ///
-/// An older file at the path is lost. So the caller has the octets in memory first, and `Memory` empties no file.
-fn make_file<'a, F: Folder>(files: &F, path: &'a str, octets: &[u8]) -> Result<F::Made, Fault<'a>>
-    ensures made { IfOk result (λ file. HasOctets F.Made.contents file octets.now) }
-    ensures refused { IfErr result (IsUnmade path.entry.now) }
+/// An older file there is replaced. So the caller has the octets in memory first, and `Memory` empties no file.
+fn make_file<'a, F: Folder>(files: &mut F, path: &'a str, octets: &[u8]) -> Result<(), Fault<'a>>
+    ensures { MakeFileResult (F.made files.old) (F.made files.new) path.entry.now octets.now result }
 {
-    let Ok(file) = files.create(path) else {
-        return Err(Fault::Write(path));
-    };
-    let mut made = Output::new(path, file);
-    made.put(octets)?;
-    let Output {
-        path: _,
-        writer,
-        has_failed: _,
-    } = made;
-    Ok(writer)
+    match files.make(path, octets) {
+        Ok(()) => Ok(()),
+        Err(_) => Err(Fault::Write(path)),
+    }
 }
 
-/// Saves the facts if a path is given, and returns the file that it makes.
+/// Saves the facts if a path is given, in one file that is made there.
 fn save_finished<'a, F: Folder>(
     alloc: Global,
-    files: &F,
+    files: &mut F,
     path: Option<&'a str>,
     finished: &Finished,
-) -> Result<Option<F::Made>, Fault<'a>>
-    ensures made { IfOk result (IsMade F.Made.contents finished.now (option_map (λ path. path.now) path.entry)) }
-    ensures refused { IfErr result (IsOfSaving (option_map (λ path. path.now) path.entry)) }
+) -> Result<(), Fault<'a>>
+    ensures { SaveResult finished.now (option_map (λ path. path.now) path.entry)
+        (F.made files.old) (F.made files.new) result }
 {
     let Some(path) = path else {
-        return Ok(None);
+        return Ok(());
     };
     let octets = saved_octets(alloc, path, finished)?;
-    let file = make_file(files, path, octets.as_slice())?;
-    Ok(Some(file))
+    make_file(files, path, octets.as_slice())
 }
 
-/// Prints the list, reports the failed connections, and then saves the facts if a path is given.
+/// Prints the list, reports the failed connections, and then saves the facts if a path is given, whatever became of the
+/// list.
 ///
-/// Returns the status, if standard error does not fail.
+/// Returns the status, if standard error does not fail. If both fail, reports why the list failed, and returns why the
+/// facts were not saved.
 fn finish<'a, 'o: 'a, F: Folder, W: Write, E: Write>(
     alloc: Global,
-    files: &F,
+    files: &mut F,
     finished: &Finished,
     saved: Option<&'a str>,
     output: &mut Output<'o, W>,
     errors: &mut Output<'_, E>,
 ) -> Result<Status, Fault<'a>>
     requires { HasNames finished.now }
-    ensures { FinishResult F.Made.contents finished.now (option_map (λ path. path.now) saved.entry)
-        (outputs W.contents E.contents output.old errors.old)
+    ensures { FinishResult finished.now (option_map (λ path. path.now) saved.entry)
+        (F.made files.old) (F.made files.new) (outputs W.contents E.contents output.old errors.old)
         (outputs W.contents E.contents output.new errors.new) result }
 {
-    put_finished(alloc, finished, output, errors)?;
-    let made = save_finished(alloc, files, saved, finished)?;
-    drop(made);
-    Ok(finished_status(finished))
+    let printed = put_finished(alloc, finished, output, errors);
+    match save_finished(alloc, files, saved, finished) {
+        Ok(()) => {
+            printed?;
+            Ok(finished_status(finished))
+        }
+        Err(fault) => {
+            report_failure(printed, errors);
+            Err(fault)
+        }
+    }
 }
 
 /// Ends a command that asked with this result: prints the list, reports the failed connections and saves the facts, or
 /// reports the fault. `run`, `ask` and `loop` all end here.
 ///
-/// If all was done and a path is given, a file was made that holds the octets of the saved file.
+/// If the facts were saved, exactly one file was made: at the path, with the octets of the saved file. They are saved
+/// also if the list cannot be written.
 pub(crate) fn conclude<'a, 'o: 'a, F: Folder, W: Write, E: Write>(
     alloc: Global,
-    files: &F,
+    files: &mut F,
     asked: Result<Finished, Fault<'a>>,
     saved: Option<&'a str>,
     output: &mut Output<'o, W>,
     errors: &mut Output<'_, E>,
 ) -> Status
     requires { IfOk asked HasNames }
-    ensures { AfterAsked F.Made.contents asked.entry (option_map (λ path. path.now) saved.entry)
-        (outputs W.contents E.contents output.old errors.old)
+    ensures { AfterAsked asked.entry (option_map (λ path. path.now) saved.entry)
+        (F.made files.old) (F.made files.new) (outputs W.contents E.contents output.old errors.old)
         (outputs W.contents E.contents output.new errors.new) result }
 {
     match asked {

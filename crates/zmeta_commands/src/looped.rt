@@ -5,9 +5,8 @@ ghost use Rattle.std.specs.Option.{option_map};
 ghost use Rattle.zmeta_commands.specs.Devices.{outputs};
 ghost use Rattle.zmeta_commands.specs.Finished.{HasNames};
 ghost use Rattle.zmeta_commands.specs.Searches.{search_of};
-ghost use Rattle.zmeta_commands.specs.Loop.{IsOfNetwork, IsOfLoop, LoopFileResult, AfterLoop};
+ghost use Rattle.zmeta_commands.specs.Loop.{IsOfNetwork, IsOfLoop, IsListedLoop, LoopFileResult, AfterLoop};
 ghost use Rattle.zmeta_world.specs.InMemoryRuns.{CanBeRun};
-ghost use Rattle.zmeta_commands.specs.Run.{IsListedRun};
 
 use crate::fault::{Fault, Status};
 use crate::files::Folder;
@@ -28,16 +27,16 @@ use zoom::run_loopback;
 /// cannot be made, prints nothing and writes the reason on `errors`.
 pub fn loop_named<'a, 'o: 'a, S: Folder + Net, W: Write, E: Write>(
     alloc: Global,
-    system: &'a S,
+    system: &mut S,
     paths: Paths<'a>,
     search: &SearchOptions<'_>,
     view: View,
     output: &mut Output<'o, W>,
     errors: &mut Output<'_, E>,
 ) -> Status
-    ensures { AfterLoop S.Made.contents (search_of search.now) view paths.entry.world.now
-        (option_map (λ path. path.now) paths.entry.saved)
-        (S.octets system.now paths.entry.world.now) (outputs W.contents E.contents output.old errors.old)
+    ensures { AfterLoop S.Stream (search_of search.now) view paths.entry.world.now
+        (option_map (λ path. path.now) paths.entry.saved) (S.octets system.old paths.entry.world.now)
+        (S.made system.old) (S.made system.new) (outputs W.contents E.contents output.old errors.old)
         (outputs W.contents E.contents output.new errors.new) result }
 {
     let asked = loop_file(alloc, system, paths.world, search, view);
@@ -47,13 +46,13 @@ pub fn loop_named<'a, 'o: 'a, S: Folder + Net, W: Write, E: Write>(
 /// Runs the world of the file at a path.
 fn loop_file<'a, S: Folder + Net>(
     alloc: Global,
-    system: &'a S,
+    system: &S,
     path: &'a str,
     search: &SearchOptions<'_>,
     view: View,
 ) -> Result<Finished, Fault<'a>>
     ensures ran { IfSome (S.octets system.now path.entry.now)
-        (λ octets. LoopFileResult (search_of search.now) view octets result) }
+        (λ octets. LoopFileResult S.Stream (search_of search.now) view octets result) }
     ensures sound { IfOk result HasNames }
     ensures path { IfErr result (IsOfLoop path.entry.now) }
 {
@@ -69,7 +68,7 @@ fn loop_in_memory<'a, N: Net>(
     view: View,
 ) -> Result<Finished, Fault<'a>>
     requires { CanBeRun run }
-    ensures run { IfOk result (IsListedRun view run) }
+    ensures run { IfOk result (IsListedLoop N.Stream view run) }
     ensures sound { IfOk result HasNames }
     ensures network { IfErr result IsOfNetwork }
 {

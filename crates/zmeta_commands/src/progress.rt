@@ -15,12 +15,17 @@ const PAUSE: u64 = 200;
 /// The codes that clear a line of a terminal.
 const WIPE: &[u8] = b"\r\x1b[K";
 
-/// The most octets of a line up to the last name, without its codes. With the number of the other catalogues it fits
-/// in a row of 80 columns.
-const WIDTH: usize = 66;
+/// The code that has a terminal cut what is too long for its row (DECAWM), and not wrap it.
+const CUT: &[u8] = b"\x1b[?7l";
 
-/// A progress line on a terminal, if there is one: how many catalogues are asked, connected, done and failed, how many
-/// records have come, and which catalogues are waited for.
+/// The code that has a terminal wrap lines again.
+const WRAP: &[u8] = b"\x1b[?7h";
+
+/// The most octets of a line up to the last name, without its codes.
+const WIDTH: usize = 40;
+
+/// A progress line on a terminal, if there is one: for how long it has asked, which catalogues are waited for, how many
+/// are done, failed and connected, and how many records have come. A terminal that is too narrow cuts the line.
 #[derive(Drop)]
 pub(crate) struct Progress<'a, C, P> {
     alloc: Global,
@@ -28,6 +33,7 @@ pub(crate) struct Progress<'a, C, P> {
     screen: Option<P>,
     names: &'a [Bytes],
     addresses: &'a [Option<Bytes>],
+    begun: Option<Instant>,
     shown: Option<Instant>,
 }
 
@@ -92,7 +98,16 @@ impl<'a, C: Clock, P: Write + Drop> Progress<'a, C, P> {
             screen,
             names,
             addresses,
+            begun: None,
             shown: None,
+        }
+    }
+
+    /// Returns for how many seconds it has asked, by a time that the clock gave.
+    fn seconds(&self, now: Instant) -> u64 {
+        match self.begun {
+            Some(begun) => now.duration_since(begun).as_secs(),
+            None => 0,
         }
     }
 
@@ -106,20 +121,29 @@ impl<'a, C: Clock, P: Write + Drop> Progress<'a, C, P> {
         }
     }
 
-    /// Returns the text of the line.
-    fn line(&self, meta: &Meta) -> Result<Vec<u8>, AllocError>
+    /// Returns the text of the line after so many seconds.
+    fn line(&self, meta: &Meta, seconds: u64) -> Result<Vec<u8>, AllocError>
         requires { length meta.now.pool.connections < 2 ^ 32 }
     {
         let standing = standing_of(meta, self.addresses);
         let records = meta.knowledge().rows()?.len();
         let mut text = Vec::new(self.alloc);
         text.extend_from_slice(WIPE)?;
-        put_count(self.alloc, standing.done, b" of ", &mut text)?;
-        put_count(self.alloc, standing.asked, b" done, ", &mut text)?;
-        put_count(self.alloc, standing.failed, b" failed, ", &mut text)?;
-        put_count(self.alloc, standing.connected, b" connected; ", &mut text)?;
-        put_count(self.alloc, records, b" records", &mut text)?;
+        text.extend_from_slice(CUT)?;
+        put_count(self.alloc, seconds, b" s", &mut text)?;
         self.put_names(meta, &mut text)?;
+        text.extend_from_slice(b"; ")?;
+        put_count(self.alloc, standing.done as u64, b" of ", &mut text)?;
+        put_count(self.alloc, standing.asked as u64, b" done, ", &mut text)?;
+        put_count(self.alloc, standing.failed as u64, b" failed, ", &mut text)?;
+        put_count(
+            self.alloc,
+            standing.connected as u64,
+            b" connected; ",
+            &mut text,
+        )?;
+        put_count(self.alloc, records as u64, b" records", &mut text)?;
+        text.extend_from_slice(WRAP)?;
         Ok(text)
     }
 
@@ -128,7 +152,7 @@ impl<'a, C: Clock, P: Write + Drop> Progress<'a, C, P> {
     fn put_names(&self, meta: &Meta, text: &mut Vec<u8>) -> Result<(), AllocError>
         requires { length meta.now.pool.connections < 2 ^ 32 }
     {
-        let mut between = b"; waiting for ".as_slice();
+        let mut between = b", waiting for ".as_slice();
         let mut others = 0usize;
         for c in 0..meta.connections() {
             if is_asked(self.addresses, c as u32) && !is_over(meta.state(c as u32)) {
@@ -140,11 +164,11 @@ impl<'a, C: Clock, P: Write + Drop> Progress<'a, C, P> {
             }
         }
         if others > 0 {
-            let is_first = between != b", ".as_slice();
+            let is_first = between.len() > 2;
             text.extend_from_slice(if is_first { between } else { b" and " })?;
             put_count(
                 self.alloc,
-                others,
+                others as u64,
                 if is_first { b"" } else { b" more" },
                 text,
             )?;
@@ -160,7 +184,7 @@ impl<'a, C: Clock, P: Write + Drop> Progress<'a, C, P> {
         let before = text.len();
         text.extend_from_slice(between)?;
         quote(self.alloc, name.as_slice(), text)?;
-        let is_short = text.len().saturating_sub(WIPE.len()) <= WIDTH;
+        let is_short = text.len().saturating_sub(WIPE.len() + CUT.len()) <= WIDTH;
         if !is_short {
             text.truncate(before);
         }
@@ -186,7 +210,7 @@ impl<'a, C: Clock, P: Write + Drop> Progress<'a, C, P> {
 /// Appends a number and what follows it.
 fn put_count(
     alloc: Global,
-    number: usize,
+    number: u64,
     behind: &[u8],
     text: &mut Vec<u8>,
 ) -> Result<(), AllocError> {
@@ -208,8 +232,11 @@ impl<'a, C: Clock, P: Write + Drop> Watch for Progress<'a, C, P> {
         if !pause.is_zero() {
             return Some(pause);
         }
+        if self.begun.is_none() {
+            self.begun = Some(now);
+        }
         self.shown = Some(now);
-        if let Ok(text) = self.line(meta) {
+        if let Ok(text) = self.line(meta, self.seconds(now)) {
             self.put(text.as_slice());
         }
         None

@@ -1,7 +1,12 @@
 //! The command `run`: puts the questions of a world file to its targets in memory.
 
-ghost use Rattle.std.specs.Prelude.{IfOk, IfErr, IfSome};
+ghost use Rattle.std.specs.Prelude.{◌≡◌, ◌<◌, ◌^◌, length, IfOk, IfErr, IfSome};
 ghost use Rattle.std.specs.Option.{option_map};
+ghost use Rattle.zoom.specs.Askable.{AreFit, AreAskable};
+ghost use Rattle.zoom.specs.NewTargets.{AreNew};
+ghost use Rattle.zoom.specs.Run.{IsRun};
+ghost use Rattle.zoom.specs.RunMade.{IsMovedRunInMemory};
+ghost use Rattle.zoom.specs.RunRounds.{IsCompleteRun};
 ghost use Rattle.zmeta_commands.specs.Devices.{outputs};
 ghost use Rattle.zmeta_commands.specs.Finished.{HasNames, IsOfSearchedWorld};
 ghost use Rattle.zmeta_world.specs.InMemoryRuns.{CanBeRun};
@@ -18,30 +23,31 @@ use std::alloc::{AllocError, Global};
 use std::io::Write;
 use zmeta_args::{SearchOptions, View};
 use zmeta_world::in_memory::InMemoryRun;
-use zoom::{InMemory, run_over};
+use zoom::{InMemory, Meta, MetaSettings, Move, Question, run_over};
+use ztarget::Target;
 
 /// Puts the questions of a world file to its targets in memory, and prints what is known: as the list, the view for
 /// readers or lines of JSON, as `view` says. If `search` has a query, wanted positions, an element set or a syntax, it
 /// replaces that of every question.
 ///
-/// Writes a line on `errors` for each connection that failed. If `paths` has a path `saved`, then makes a saved file of
-/// the facts there, and returns `Done` or `Failed` only if the file holds them all. If nothing is printed or not all is
-/// saved, writes the reason on `errors`.
+/// Writes a line on `errors` for each connection that failed. If `paths` has a path `saved`, then makes one file
+/// there, the saved file of the facts, and returns `Done` or `Failed` only if it holds them all. Makes no other file.
+/// If nothing is printed or not all is saved, writes the reason on `errors`.
 ///
 /// Returns `Refused` if a file or a stream failed, `errors` too. Else returns `Failed` if a search, an association or a
 /// connection failed, a target closed a connection first, or a question was not asked.
 pub fn run_named<'a, 'o: 'a, F: Folder, W: Write, E: Write>(
     alloc: Global,
-    files: &'a F,
+    files: &mut F,
     paths: Paths<'a>,
     search: &SearchOptions<'_>,
     view: View,
     output: &mut Output<'o, W>,
     errors: &mut Output<'_, E>,
 ) -> Status
-    ensures { AfterRun F.Made.contents (search_of search.now) view paths.entry.world.now
-        (option_map (λ path. path.now) paths.entry.saved)
-        (F.octets files.now paths.entry.world.now) (outputs W.contents E.contents output.old errors.old)
+    ensures { AfterRun (search_of search.now) view paths.entry.world.now
+        (option_map (λ path. path.now) paths.entry.saved) (F.octets files.old paths.entry.world.now)
+        (F.made files.old) (F.made files.new) (outputs W.contents E.contents output.old errors.old)
         (outputs W.contents E.contents output.new errors.new) result }
 {
     let asked = run_file(alloc, files, paths.world, search, view);
@@ -51,7 +57,7 @@ pub fn run_named<'a, 'o: 'a, F: Folder, W: Write, E: Write>(
 /// Runs the world of the file at a path.
 fn run_file<'a, F: Folder>(
     alloc: Global,
-    files: &'a F,
+    files: &F,
     path: &'a str,
     search: &SearchOptions<'_>,
     view: View,
@@ -68,7 +74,7 @@ fn run_file<'a, F: Folder>(
 /// Reads the file at a path, puts the search to its questions, and plans an in-memory run of its world.
 pub(crate) fn read_in_memory<'a, F: Folder>(
     alloc: Global,
-    files: &'a F,
+    files: &F,
     path: &'a str,
     search: &SearchOptions<'_>,
 ) -> Result<InMemoryRun, Fault<'a>>
@@ -80,6 +86,28 @@ pub(crate) fn read_in_memory<'a, F: Folder>(
     let world = world_at(alloc, files, path, search)?;
     let name = Bytes::copy_from_slice(alloc, NAME)?;
     Ok(world.in_memory(alloc, name)?)
+}
+
+/// Makes these moves, and then puts each question to its target, within memory.
+fn run_all(
+    alloc: Global,
+    questions: Vec<Question>,
+    settings: MetaSettings,
+    targets: Vec<Target>,
+    moves: &[Move],
+) -> Result<Meta, AllocError>
+    requires some { length questions.items < 2 ^ 32 }
+    requires askable { AreAskable questions.items }
+    requires fit { AreFit settings }
+    requires new { AreNew targets.items }
+    requires equal { length targets.items ≡ length questions.items }
+    ensures is_run { IfOk result (λ meta. IsRun questions.items settings targets.items meta) }
+    ensures moved { IfOk result
+        (λ meta. IsMovedRunInMemory questions.items settings targets.items moves.now meta) }
+    ensures whole { IfOk result (λ meta. IsCompleteRun questions.items settings targets.items meta) }
+    ensures size { IfOk result (λ meta. length meta.pool.connections ≡ length questions.items) }
+{
+    run_over(alloc, questions, settings, targets, &mut InMemory, moves)
 }
 
 /// Runs a planned world, and makes its list.
@@ -95,12 +123,11 @@ fn run_in_memory(alloc: Global, run: InMemoryRun, view: View) -> Result<Finished
         names,
         moves,
     } = run;
-    let meta = run_over(
+    let meta = run_all(
         alloc,
         questions.into_vec(),
         settings,
         targets.into_vec(),
-        &mut InMemory,
         moves.as_slice(),
     )?;
     Finished::new(alloc, meta, names, Vec::new(alloc), view)

@@ -1,11 +1,11 @@
 //! What the options of the command line put to every question.
 
-ghost use Rattle.std.specs.Prelude.{◌≡◌, ◌++◌, IfOk, OnOk};
-ghost use Rattle.std.specs.List.{flat_map};
+ghost use Rattle.std.specs.Prelude.{◌≡◌, ◌<◌, ◌++◌, length, IfOk, OnOk};
+ghost use Rattle.std.specs.List.{flat_map, list_any};
 ghost use Rattle.std.specs.Option.{option_map};
 ghost use Rattle.zmeta_args.specs.Texts.{texts_of};
 ghost use Rattle.zmeta_world.specs.Search.{search_texts};
-ghost use Rattle.zmeta_commands.specs.Searches.{escaped, term_text, terms_under, terms_of, ands, terms_query, copied_texts, search_of, terms_shown};
+ghost use Rattle.zmeta_commands.specs.Searches.{escaped, is_blank, is_blank_term, term_text, terms_under, terms_of, ands, joined_terms, terms_text, terms_query, copied_texts, search_of, terms_shown};
 
 use std::alloc::{AllocError, Global};
 use zmeta_args::SearchOptions;
@@ -109,6 +109,36 @@ fn put_all(terms: &[Term<'_>], text: &mut Vec<u8>) -> Result<(), AllocError>
     Ok(())
 }
 
+/// Returns whether one of the terms has no text.
+fn has_blank(terms: &[Term<'_>]) -> bool
+    ensures { result ≡ list_any is_blank_term terms.now }
+{
+    terms.iter().any(|term| term.text.is_empty())
+}
+
+/// Returns the terms joined by `@and`.
+fn joined_text(alloc: Global, terms: &[Term<'_>]) -> Result<Vec<u8>, AllocError>
+    requires { 0 < length terms.now }
+    ensures { IfOk result (λ text. text.items ≡ joined_terms (terms_shown terms.now)) }
+{
+    let mut text = Vec::new(alloc);
+    put_ands(terms.len() - 1, &mut text)?;
+    put_all(terms, &mut text)?;
+    Ok(text)
+}
+
+/// Returns the terms joined: where one of them has no text, the empty text, which is no query.
+#[tactic(auto, unfolding(crate::specs::Searches::terms_text), using(crate::proofs::Terms::any_blank))]
+fn terms_text(alloc: Global, terms: &[Term<'_>]) -> Result<Vec<u8>, AllocError>
+    requires { 0 < length terms.now }
+    ensures { IfOk result (λ text. text.items ≡ terms_text (terms_shown terms.now)) }
+{
+    if has_blank(terms) {
+        return Ok(Vec::new(alloc));
+    }
+    joined_text(alloc, terms)
+}
+
 /// Returns the query that the terms make, if there are any.
 fn joined_terms(alloc: Global, terms: &[Term<'_>]) -> Result<Option<Vec<u8>>, AllocError>
     ensures { IfOk result (λ text. option_map (λ text. text.items) text ≡ terms_query (terms_shown terms.now)) }
@@ -116,9 +146,7 @@ fn joined_terms(alloc: Global, terms: &[Term<'_>]) -> Result<Option<Vec<u8>>, Al
     if terms.is_empty() {
         return Ok(None);
     }
-    let mut text = Vec::new(alloc);
-    put_ands(terms.len() - 1, &mut text)?;
-    put_all(terms, &mut text)?;
+    let text = terms_text(alloc, terms)?;
     Ok(Some(text))
 }
 

@@ -1,19 +1,19 @@
 //! The command `serve`: a target of a world file answers clients over TCP.
 
-ghost use Rattle.std.specs.Prelude.{IfSome};
-ghost use Rattle.zmeta_world.specs.InMemoryRuns.{IsFit};
+ghost use Rattle.std.specs.Prelude.{◌≡◌, ◌≢◌, [], ◌∷◌, Err, IfErr, IfSome};
+ghost use Rattle.zmeta_world.specs.InMemoryRuns.{IsFit, AreSmall};
 ghost use Rattle.zmeta_commands.specs.Devices.{output_device};
-ghost use Rattle.zmeta_commands.specs.Serve.{ServeResult, ServeWorldResult, IsServiceEnd, AfterServe};
+ghost use Rattle.zmeta_commands.specs.Serve.{service_of, ServedAt, ServeResult, ServeWorldResult, IsUnserved, IsServiceEnd, AfterServe};
 
+use crate::doors::Doors;
 use crate::fault::{Fault, Status, end_done};
 use crate::files::{Folder, file_at};
 use crate::output::Output;
 use crate::worlds::world_in;
 use std::alloc::Global;
 use std::io::Write;
-use std::net::{Net, TcpListener};
 use std::time::Clock;
-use zmeta_world::world::World;
+use zmeta_world::world::{NamedTarget, World};
 use zoom::serve;
 
 /// Which target is served, where, and for how many connections.
@@ -33,27 +33,29 @@ pub struct Service<'a> {
 /// gets a new target. If a connection fails, the next is still served.
 ///
 /// If the target was not served, writes the reason on `errors`.
-pub fn serve_named<'a, S: Folder + Net + Clock, E: Write>(
+pub fn serve_named<'a, S: Folder + Doors + Clock, E: Write>(
     alloc: Global,
     system: &'a S,
     service: Service<'a>,
     errors: &mut Output<'_, E>,
 ) -> Status
-    ensures { AfterServe service.entry.name.now service.entry.world.now (S.octets system.now service.entry.world.now)
+    ensures { AfterServe (ServedAt S S.Client S.IsAt (S.IsShut system.now)) (service_of service.entry)
+        (S.octets system.now service.entry.world.now)
         (output_device E.contents errors.old) (output_device E.contents errors.new) result }
 {
-    let answer = serve_target(alloc, system, service);
+    let answer = serve_file(alloc, system, service);
     end_done(answer, errors)
 }
 
 /// Reads the world, and serves its target.
-fn serve_target<'a, S: Folder + Net + Clock>(
+fn serve_file<'a, S: Folder + Doors + Clock>(
     alloc: Global,
     system: &'a S,
     service: Service<'a>,
 ) -> Result<(), Fault<'a>>
     ensures serves { IfSome (S.octets system.now service.entry.world.now)
-        (λ octets. ServeResult service.entry.name.now octets result) }
+        (λ octets. ServeResult (ServedAt S S.Client S.IsAt (S.IsShut system.now)) (service_of service.entry) octets
+        result) }
     ensures path { IsServiceEnd service.entry.world.now result }
 {
     let mut file = file_at(system, service.world);
@@ -63,28 +65,46 @@ fn serve_target<'a, S: Folder + Net + Clock>(
     served
 }
 
-/// Serves a target of the world for `service.count` connections. If that is 0, it needs no memory.
-fn serve_world<'a, S: Net + Clock>(
+/// Serves the target of a world that has the name.
+fn serve_world<'a, S: Doors + Clock>(
     alloc: Global,
     system: &'a S,
     service: Service<'a>,
     world: &World,
 ) -> Result<(), Fault<'a>>
     requires { IsFit world.now }
-    ensures { ServeWorldResult service.entry.name.now service.entry.count world.now result }
+    ensures serves { ServeWorldResult (ServedAt S S.Client S.IsAt (S.IsShut system.now)) (service_of service.entry)
+        world.now result }
+    ensures end { IfErr result IsUnserved }
 {
-    let Some(target) = world.target(service.name.as_bytes()) else {
-        return Err(Fault::Serve);
-    };
-    let Ok(listener) = TcpListener::bind(system, service.address) else {
+    match world.target(service.name.as_bytes()) {
+        Some(target) => serve_target(alloc, system, service.address, service.count, target),
+        None => Err(Fault::Serve),
+    }
+}
+
+/// Listens at an address, and serves a target for `count` connections. If that is 0, it needs no memory.
+fn serve_target<'a, S: Doors + Clock>(
+    alloc: Global,
+    system: &'a S,
+    address: &'a str,
+    count: u32,
+    target: &NamedTarget,
+) -> Result<(), Fault<'a>>
+    requires { AreSmall (target.now ∷ []) }
+    ensures serves { ServedAt S S.Client S.IsAt (S.IsShut system.now) address.now target.now count result }
+    ensures memory { result ≡ Err Fault.Memory → count ≢ 0 }
+    ensures end { IfErr result IsUnserved }
+{
+    let Ok(door) = system.listen(address) else {
         return Err(Fault::Serve);
     };
     Ok(serve(
         alloc,
         system,
-        &listener,
+        &door,
         &target.databases,
         target.settings,
-        service.count,
+        count,
     )?)
 }

@@ -1,12 +1,13 @@
 //! Help, and why arguments are wrong.
 ghost use Rattle.zmeta_commands.specs.Devices.{output_device, outputs};
-ghost use Rattle.zmeta_commands.specs.Arguments.{HelpResult, AfterUsage};
+ghost use Rattle.zmeta_commands.specs.Arguments.{HelpResult, AfterNotice, AfterUsage};
 
 use crate::fault::{Fault, Status, end_done};
 use crate::output::Output;
 use clap::Error;
 use clap::error::ErrorKind;
 use std::alloc::Global;
+use std::fmt::Display;
 use std::io::Write;
 
 /// Writes `clap`'s text and returns the status. Wrong arguments are reported on `errors`, and help is printed on
@@ -20,26 +21,44 @@ pub(crate) fn print_usage<'a, W: Write, E: Write>(
     ensures { AfterUsage error.now (outputs W.contents E.contents output.old errors.old)
         (outputs W.contents E.contents output.new errors.new) result }
 {
-    if error.kind() == ErrorKind::OutOfMemory {
-        return Fault::Memory.report(errors);
-    }
-    if error.use_stderr() {
-        // The arguments are wrong even if this cannot be written.
-        let _ = errors.show(error);
-        return Status::Arguments;
-    }
-    let answer = print_help(alloc, error, output);
-    end_done(answer, errors)
+    print_notice(alloc, error.kind(), error, output, errors)
 }
 
-/// Prints `clap`'s text for help or the version, once it stands in memory.
-fn print_help<'a, W: Write>(
+/// Writes a text of this kind and returns the status: the whole text, whatever it says, and nothing else.
+#[tactic(auto, using(crate::proofs::Running::told))]
+fn print_notice<'a, D: Display, W: Write, E: Write>(
     alloc: Global,
-    error: &Error,
+    kind: ErrorKind,
+    text: &D,
+    output: &mut Output<'a, W>,
+    errors: &mut Output<'a, E>,
+) -> Status
+    ensures { AfterNotice kind (D.output text.now) (outputs W.contents E.contents output.old errors.old)
+        (outputs W.contents E.contents output.new errors.new) result }
+{
+    match kind {
+        ErrorKind::OutOfMemory => Fault::Memory.report(errors),
+        ErrorKind::DisplayHelp | ErrorKind::DisplayVersion => {
+            let answer = print_help(alloc, text, output);
+            end_done(answer, errors)
+        }
+        _ => {
+            // The arguments are wrong even if this cannot be written.
+            let _ = errors.show(text);
+            Status::Arguments
+        }
+    }
+}
+
+/// Prints the text of help or the version, once it stands in memory.
+fn print_help<'a, D: Display, W: Write>(
+    alloc: Global,
+    text: &D,
     output: &mut Output<'a, W>,
 ) -> Result<(), Fault<'a>>
-    ensures { HelpResult (output_device W.contents output.old) (output_device W.contents output.new) result }
+    ensures { HelpResult (D.output text.now) (output_device W.contents output.old) (output_device W.contents output.new)
+        result }
 {
-    let text = error.to_string(alloc)?;
-    output.put(text.as_bytes())
+    let whole = text.to_string(alloc)?;
+    output.put(whole.as_bytes())
 }

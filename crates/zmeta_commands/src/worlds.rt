@@ -49,7 +49,7 @@ fn searched_world<'a, R: Read>(
 /// all begin here.
 pub(crate) fn world_at<'a, F: Folder>(
     alloc: Global,
-    files: &'a F,
+    files: &F,
     path: &'a str,
     search: &SearchOptions<'_>,
 ) -> Result<World, Fault<'a>>

@@ -1,5 +1,5 @@
 // What a command prints, tells and answers by its words.
-use crate::shelf::SHELF;
+use crate::shelf::filled_shelf;
 use std::alloc::{AllocError, Global};
 use std::io::{ErrorKind, Write};
 use std::net::Net;
@@ -7,6 +7,7 @@ use std::time::Clock;
 use zber_tests::rows::{halves, split_row, unescape};
 use zber_tests::unread::Unread;
 use zmeta_commands::commands::run;
+use zmeta_commands::doors::Doors;
 use zmeta_commands::fault::Status;
 use zmeta_commands::files::Folder;
 use zmeta_commands::input::Input;
@@ -21,9 +22,9 @@ pub(crate) struct Outcome {
 }
 
 // What is answered where the input is read without a failure.
-fn status<'a, S: Folder + Net + Clock, W: Write, E: Write>(
+fn status<'a, S: Folder + Doors + Net + Clock, W: Write, E: Write>(
     alloc: Global,
-    system: &S,
+    system: &mut S,
     words: Result<&[String], ErrorKind>,
     input: &'a [u8],
     output: &mut Output<'a, W>,
@@ -35,9 +36,9 @@ fn status<'a, S: Folder + Net + Clock, W: Write, E: Write>(
 }
 
 /// What the words of a command line do, on an input that is read without a failure.
-pub(crate) fn ran<S: Folder + Net + Clock>(
+pub(crate) fn ran<S: Folder + Doors + Net + Clock>(
     alloc: Global,
-    system: &S,
+    system: &mut S,
     words: Result<&[String], ErrorKind>,
     input: &[u8],
 ) -> Outcome {
@@ -68,9 +69,9 @@ pub(crate) fn words_of(alloc: Global, line: &str) -> Result<Vec<String>, AllocEr
 }
 
 /// What the words of a line do.
-pub(crate) fn ran_line<S: Folder + Net + Clock>(
+pub(crate) fn ran_line<S: Folder + Doors + Net + Clock>(
     alloc: Global,
-    system: &S,
+    system: &mut S,
     line: &str,
     input: &[u8],
 ) -> Result<Outcome, AllocError> {
@@ -109,9 +110,9 @@ pub(crate) fn is_due(alloc: Global, ran: &Outcome, due: &str) -> Result<bool, Un
 }
 
 /// Whether the words of a line do on these files what is due of it in its row.
-pub(crate) fn is_done_in<S: Folder + Net + Clock>(
+pub(crate) fn is_done_in<S: Folder + Doors + Net + Clock>(
     alloc: Global,
-    system: &S,
+    system: &mut S,
     row: &str,
 ) -> Result<bool, Unread> {
     let (line, due) = halves(row);
@@ -123,5 +124,5 @@ pub(crate) fn is_done_in<S: Folder + Net + Clock>(
 
 /// The same on the shelf.
 pub(crate) fn is_done(alloc: Global, row: &str) -> Result<bool, Unread> {
-    is_done_in(alloc, &SHELF, row)
+    is_done_in(alloc, &mut filled_shelf(alloc), row)
 }

@@ -1,7 +1,7 @@
 // Streams that fail while a command runs, and one that does not end.
 use crate::answers::words_of;
 use crate::devices::{Broken, Drip, Full};
-use crate::shelf::SHELF;
+use crate::shelf::filled_shelf;
 use std::alloc::Global;
 use std::io::Write;
 use std::process::Abort;
@@ -58,7 +58,7 @@ fn status<'a, E: Write>(
     let screen: Option<Vec<u8>> = None;
     run(
         alloc,
-        &SHELF,
+        &mut filled_shelf(alloc),
         Ok(words),
         &mut input,
         &mut output,

@@ -1,9 +1,12 @@
 // Readers, writers and files for tests: each reader and writer fails at one call, the first being call 1, and moves at
 // most three octets in each other.
+use std::alloc::{AllocError, Global};
 use std::io;
 use std::io::{ErrorKind, Read, Write};
+use std::marker::Model;
 use std::net::{Net, SocketAddr, TcpListener, TcpStream};
 use std::time::{Clock, Duration};
+use zmeta_commands::doors::Doors;
 use zmeta_commands::files::Folder;
 
 /// A reader of some octets.
@@ -57,16 +60,68 @@ pub(crate) struct Kept<'a> {
     pub fails_at: u32,
 }
 
+/// A file in memory that was made.
+#[derive(Drop)]
+pub(crate) struct Stored {
+    pub path: String,
+    pub octets: Vec<u8>,
+}
+
+impl Model for Stored {
+    ghost use Rattle.std.specs.Prelude.{string_bytes};
+    ghost use Rattle.zmeta_commands.specs.Files.{MadeFile};
+
+    ghost Value = { MadeFile };
+
+    ghost view = { λ s. record { path = string_bytes s.path; octets = s.octets.items } };
+}
+
+impl Stored {
+    ghost use Rattle.std.specs.Prelude.{◌≡◌, IfOk};
+
+    fn new(alloc: Global, path: &str, contents: &[u8]) -> Result<Stored, AllocError>
+        ensures { IfOk result (λ file. file ≡ record { path = path.now; octets = contents.now }) }
+    {
+        let path = String::from_str(alloc, path)?;
+        let mut octets = Vec::new(alloc);
+        octets.extend_from_slice(contents)?;
+        Ok(Stored { path, octets })
+    }
+}
+
 /// Files in memory. No other file opens.
-#[derive(Clone, Copy)]
+#[derive(Drop)]
 pub(crate) struct Shelf<'a> {
+    pub alloc: Global,
     pub files: &'a [Kept<'a>],
+    /// The files made so far, oldest first.
+    pub stored: Vec<Stored>,
+}
+
+impl Shelf<'_> {
+    ghost use Rattle.std.specs.Prelude.{◌≡◌, ◌++◌, ◌∷◌, [], OnOk, OnErr};
+
+    fn store(&mut self, path: &str, contents: &[u8]) -> io::Result<()>
+        ensures ok { OnOk result (self.new.stored.items
+            ≡ self.old.stored.items ++ (record { path = path.now; octets = contents.now }) ∷ []) }
+        ensures err { OnErr result (self.new.stored.items ≡ self.old.stored.items) }
+    {
+        let Ok(file) = Stored::new(self.alloc, path, contents) else {
+            return Err(io::Error::from(ErrorKind::OutOfMemory));
+        };
+        match self.stored.push(file) {
+            Ok(()) => Ok(()),
+            Err(_) => Err(io::Error::from(ErrorKind::OutOfMemory)),
+        }
+    }
 }
 
 impl<'a> Folder for Shelf<'a> {
+    ghost use Rattle.std.specs.Prelude.{Some};
+
     type File = Broken<'a>;
 
-    type Made = Full;
+    ghost made = { λ s. Some s.stored.items };
 
     fn open(&self, path: &str) -> io::Result<Broken<'a>> {
         for file in self.files {
@@ -81,13 +136,18 @@ impl<'a> Folder for Shelf<'a> {
         Err(io::Error::from(ErrorKind::NotFound))
     }
 
-    /// A writer that keeps nothing: at `full` its second write fails, and nothing is made at `none`.
-    fn create(&self, path: &str) -> io::Result<Full> {
+    /// At `full` only three octets find room, and nothing is made at `none`.
+    #[tactic(auto, using(crate::proofs::StoredFiles::front_made))]
+    fn make(&mut self, path: &str, contents: &[u8]) -> io::Result<()> {
         if path == "none" {
             return Err(io::Error::from(ErrorKind::NotFound));
         }
-        let fails_at = if path == "full" { 2 } else { 0 };
-        Ok(Full { calls: 0, fails_at })
+        if path == "full" {
+            let front = contents.len().min(3);
+            self.store(path, &contents[..front])?;
+            return Err(io::Error::from(ErrorKind::StorageFull));
+        }
+        self.store(path, contents)
     }
 }
 
@@ -103,6 +163,21 @@ impl Net for Shelf<'_> {
 
     fn connect(&self, _addr: SocketAddr) -> io::Result<TcpStream> {
         Err(io::Error::from(ErrorKind::ConnectionRefused))
+    }
+}
+
+/// Nothing can listen.
+impl Doors for Shelf<'_> {
+    type Client = TcpStream;
+
+    type Door = TcpListener;
+
+    ghost IsAt = { λ _ _. Unit {0} };
+
+    ghost IsShut = { λ _ _. Unit {0} };
+
+    fn listen(&self, _address: &str) -> io::Result<TcpListener> {
+        Err(io::Error::from(ErrorKind::AddrInUse))
     }
 }
 

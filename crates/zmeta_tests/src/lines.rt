@@ -1,10 +1,14 @@
-// What commands tell where no port is to be had, where a file fails, and where their words cannot be read.
-use crate::answers::{Outcome, is_done, ran};
-use crate::shelf::SHELF;
+// What commands tell where no port is to be had, where a file fails, and where their words cannot be read; and which
+// file they make.
+use crate::answers::{Outcome, is_done, ran, ran_line};
+use crate::devices::Stored;
+use crate::shelf::filled_shelf;
+use std::alloc::Global;
 use std::io::ErrorKind;
 use std::process::Abort;
 use std::test::Fail;
-use zber_tests::rows::each_row;
+use zber_tests::rows::{each_row, halves, pair, unescape};
+use zber_tests::unread::Unread;
 
 const CLOSE: &[u8] = b"BF 30 05 9F 81 53 01 00";
 
@@ -31,10 +35,48 @@ fn is_told(ran: &Outcome, status: u8, front: &[u8]) -> bool {
     ran.status.code() == status && ran.told.as_slice().starts_with(front) && ran.printed.is_empty()
 }
 
+// A line of words, and the path and the octets of the one file that is made, if any.
+const MADE: &str = "\
+zmeta|run|asked|--save|out => out %a4%03%80%01a%a0%09%80%01%00%81%01%01%82%01%00
+zmeta|run|--titles|asked|--save|world => world %a4%03%80%01a%a0%09%80%01%00%81%01%01%82%01%00
+zmeta|run|asked|--save|full => full %a4%03%80
+zmeta|run|asked|--save|none => -
+zmeta|run|asked => -
+zmeta|run|broken|--save|out => -
+zmeta|join|count|record => -
+";
+
+fn is_stored(alloc: Global, stored: &[Stored], due: &str) -> Result<bool, Unread> {
+    let (path, octets) = pair(due);
+    let Ok(octets) = unescape(alloc, octets) else {
+        return Err(Unread);
+    };
+    match stored {
+        [] => Ok(due == "-"),
+        [file] => Ok(file.path.as_str() == path && file.octets.as_slice() == octets.as_slice()),
+        _ => Ok(false),
+    }
+}
+
+fn is_made(alloc: Global, row: &str) -> Result<bool, Unread> {
+    let (line, due) = halves(row);
+    let mut shelf = filled_shelf(alloc);
+    if ran_line(alloc, &mut shelf, line, b"").is_err() {
+        return Err(Unread);
+    }
+    is_stored(alloc, shelf.stored.as_slice(), due)
+}
+
+#[test]
+fn one_file_is_made_at_the_path(rt: HostRuntime) -> Result<(), Fail> {
+    each_row(rt.alloc(), MADE, is_made)
+}
+
 #[test]
 fn a_line_without_words_is_told(rt: HostRuntime) {
-    let odd = ran(rt.alloc(), &SHELF, Err(ErrorKind::InvalidData), CLOSE);
+    let mut shelf = filled_shelf(rt.alloc());
+    let odd = ran(rt.alloc(), &mut shelf, Err(ErrorKind::InvalidData), CLOSE);
     assert!(rt; is_told(&odd, 2, b"error: "));
-    let unread = ran(rt.alloc(), &SHELF, Err(ErrorKind::OutOfMemory), CLOSE);
+    let unread = ran(rt.alloc(), &mut shelf, Err(ErrorKind::OutOfMemory), CLOSE);
     assert!(rt; is_told(&unread, 4, b"zmeta: out of memory\n"));
 }

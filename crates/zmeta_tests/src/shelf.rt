@@ -1,5 +1,6 @@
 // The files that commands find: worlds, an address, and saved files.
 use crate::devices::{Kept, Shelf};
+use std::alloc::Global;
 
 /// Names `a`, and set 1 of target 0 with 4 records.
 const COUNT: &[u8] = b"\xa4\x03\x80\x01a\xa0\x09\x80\x01\x00\x81\x01\x01\x82\x01\x04";
@@ -84,4 +85,10 @@ const FILES: [Kept<'static>; 6] = [
 ];
 
 /// All of them.
-pub(crate) const SHELF: Shelf<'static> = Shelf { files: &FILES };
+pub(crate) fn filled_shelf(alloc: Global) -> Shelf<'static> {
+    Shelf {
+        alloc,
+        files: &FILES,
+        stored: Vec::new(alloc),
+    }
+}

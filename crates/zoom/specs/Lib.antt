@@ -54,7 +54,9 @@ pub use Rattle.zoom_sim.specs.RunTakeAll
 pub use Rattle.zoom_sim.specs.declared.channels.InMemory
 pub use Rattle.zoom_tcp.specs.Asking
 pub use Rattle.zoom_tcp.specs.Clients
+pub use Rattle.zoom_tcp.specs.Loopback
 pub use Rattle.zoom_tcp.specs.declared.limits.Family
 pub use Rattle.zoom_tcp.specs.declared.limits.Limits
+pub use Rattle.zoom_tcp.specs.declared.notice.Notice
 pub use Rattle.zoom_tcp.specs.declared.service.ServeError
 pub use Rattle.zoom_tcp.specs.Serving

@@ -15,6 +15,6 @@ pub use zoom_questions::{MetaSettings, Move, Question};
 pub use zoom_sim::channels::{Channel, InMemory};
 pub use zoom_sim::{run_over, run_world};
 pub use zoom_tcp::{
-    Arrival, Clients, Family, Limits, ServeError, TcpClients, TcpLink, Unwatched, Watch, ask,
-    run_loopback, serve, serve_over,
+    Arrival, Asked, Clients, Family, Limits, Notice, ServeError, TcpClients, TcpLink, Unwatched,
+    Watch, ask, run_loopback, serve, serve_over,
 };

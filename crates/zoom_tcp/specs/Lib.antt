@@ -1,4 +1,5 @@
 pub mod Asking
 pub mod Clients
 pub mod Families
+pub mod Loopback
 pub mod Serving

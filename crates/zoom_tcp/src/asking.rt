@@ -5,6 +5,7 @@ ghost use Rattle.zoom_tcp.specs.Asking.{IsAsked, IsReportedOn, asked_host, hosts
 
 use crate::limits::{Family, Limits};
 use crate::names::{Names, addresses_in, resolve};
+use crate::notice::Notice;
 use crate::sockets::{Happening, Sockets};
 use crate::stopwatch::Stopwatch;
 use crate::watch::Watch;
@@ -16,6 +17,15 @@ use zber::Seq;
 use zoom_asking::laws::{asked_end_law, given_up_law};
 use zoom_asking::{Action, AskedHost, Asking, Manner, Report, Task};
 use zoom_pool::{Meta, MetaSettings, Question};
+
+/// What asking hosts left.
+#[derive(Drop)]
+pub struct Asked {
+    /// The connections and their facts.
+    pub meta: Meta,
+    /// What was noticed of the host of each connection.
+    pub notices: Vec<Notice>,
+}
 
 /// Puts each question to the host at the address (`host:port`) with its number, if it has one (Z39.50-2003, 3.2). All
 /// are connected to side by side, without threads. They are talked with at once or in order, as `manner` says. A host
@@ -36,12 +46,12 @@ pub fn ask<N: Net + Clock, V: Watch>(
     manner: Manner,
     limits: Limits,
     watch: &mut V,
-) -> Result<Meta, AllocError>
+) -> Result<Asked, AllocError>
     requires some { length questions.items < 2 ^ 32 }
     requires askable { AreAskable questions.items }
     requires fit { AreFit settings }
     requires equal { length addresses.now ≡ length questions.items }
-    ensures asked { IfOk result (λ meta. IsAsked questions.items settings manner limits addresses.now meta) }
+    ensures asked { IfOk result (λ asked. IsAsked questions.items settings manner limits addresses.now asked.meta) }
 {
     let hosts = hosts_of(alloc, addresses, &limits)?;
     let stopwatch = Stopwatch::new(net);
@@ -65,8 +75,9 @@ pub fn ask<N: Net + Clock, V: Watch>(
         sockets: Sockets::new(alloc, net, addresses.len())?,
     };
     let meta = shell.ask_all(asking, addresses, watch)?;
+    let notices = shell.sockets.notices(alloc)?;
     asked_end_law();
-    Ok(meta)
+    Ok(Asked { meta, notices })
 }
 
 /// A host for each address.
@@ -163,23 +174,24 @@ impl<'a, N: Net + Clock> Shell<'a, N> {
         ensures size { length asking.new.meta.pool.connections ≡ length asking.old.meta.pool.connections }
     {
         match addresses_in(self.alloc, name.as_slice(), self.family)? {
-            Some(addresses) => self.resolved(asking, c, addresses),
+            Some(found) => self.resolved(asking, c, found.addresses, found.notice),
             None => self.names.put(c, name.clone()?),
         }
     }
 
-    /// These are the addresses of a connection's host.
+    /// These are the addresses of a connection's host. If there are none, that is why.
     fn resolved(
         &mut self,
         asking: &mut Asking,
         c: u32,
         addresses: Vec<SocketAddr>,
+        notice: Notice,
     ) -> Result<(), AllocError>
         ensures on { OnOk result (IsReportedOn asking.old asking.new) }
         ensures size { length asking.new.meta.pool.connections ≡ length asking.old.meta.pool.connections }
     {
         let count = addresses.len();
-        self.sockets.know(c, addresses);
+        self.sockets.know(c, addresses, notice);
         tell(asking, self.now, c, Report::Resolved(count))
     }
 
@@ -292,7 +304,12 @@ impl<'a, N: Net + Clock> Shell<'a, N> {
         self.now = self.stopwatch.now();
         self.names.pass(before, self.now);
         for i in 0..connections.len() {
-            self.resolved(asking, connections[i], found.clone()?)?;
+            self.resolved(
+                asking,
+                connections[i],
+                found.addresses.clone()?,
+                found.notice,
+            )?;
         }
         Ok(())
     }

@@ -1,4 +1,5 @@
 //! One host: its addresses, its sockets, and the octets that it has not taken yet.
+use crate::notice::Notice;
 use crate::socket::{Moved, Socket};
 use std::alloc::{AllocError, Global};
 use std::net::SocketAddr;
@@ -7,6 +8,10 @@ use std::net::SocketAddr;
 #[derive(Drop)]
 pub(crate) struct Host {
     pub(crate) addresses: Vec<SocketAddr>,
+    /// What was noticed of it last.
+    noticed: Notice,
+    /// How many attempts to connect failed.
+    failed: usize,
     /// The sockets of attempts to connect, by the number of the address.
     sockets: Vec<Option<Socket>>,
     /// The attempt that has connected.
@@ -23,11 +28,33 @@ impl Host {
     pub(crate) fn new(alloc: Global) -> Host {
         Host {
             addresses: Vec::new(alloc),
+            noticed: Notice::Nothing,
+            failed: 0,
             sockets: Vec::new(alloc),
             connected: None,
             is_wanted: false,
             unsent: Vec::new(alloc),
             sent: 0,
+        }
+    }
+
+    /// Notes what was noticed.
+    pub(crate) fn note(&mut self, notice: Notice) {
+        self.noticed = notice;
+    }
+
+    /// Notes that an attempt to connect failed.
+    pub(crate) fn note_attempt(&mut self, notice: Notice) {
+        self.failed = self.failed.saturating_add(1);
+        self.noticed = notice;
+    }
+
+    /// What was noticed last. While attempts are left, those that failed tell nothing.
+    pub(crate) fn notice(&self) -> Notice {
+        match self.noticed {
+            Notice::Refused | Notice::NoRoute if self.failed < self.addresses.len() =>
+                Notice::Nothing,
+            notice => notice,
         }
     }
 

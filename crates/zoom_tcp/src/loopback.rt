@@ -1,8 +1,10 @@
 //! Connections to targets within one process, over TCP on 127.0.0.1.
-ghost use Rattle.std.specs.Prelude.{◌≡◌, ◌≤◌, ◌<◌, ◌^◌, length, IfOk};
+ghost use Rattle.std.specs.Prelude.{◌≡◌, ◌≤◌, ◌<◌, ◌^◌, [], None, length, IfOk};
 ghost use Rattle.zoom_questions.specs.Askable.{AreFit, AreAskable};
 ghost use Rattle.zoom_questions.specs.NewTargets.{AreNew};
 ghost use Rattle.zoom_sim.specs.Run.{IsRun};
+ghost use Rattle.zoom_sim.specs.RunMade.{IsMovedRun};
+ghost use Rattle.zoom_tcp.specs.Loopback.{NoteStep, AreSound, PieceStep, IsNoted, IsLoopbackRun};
 
 use crate::link::{PATIENCE, set_limits};
 use crate::service::ServeError;
@@ -83,7 +85,9 @@ fn carry<W: Sink, R: Source>(sink: &mut W, source: &mut R, octets: &[u8]) -> Res
 
 impl<S: Read + Write> Pair<S> {
     /// Records the reason if the octets were not carried. Returns whether they were.
-    fn note(&mut self, carried: Result<(), Reason>) -> bool {
+    fn note(&mut self, carried: Result<(), Reason>) -> bool
+        ensures { NoteStep result self.old self.new }
+    {
         match carried {
             Ok(()) => true,
             Err(reason) => {
@@ -94,13 +98,17 @@ impl<S: Read + Write> Pair<S> {
     }
 
     /// Carries octets from the client to the server. Returns whether all were carried.
-    fn carry_to(&mut self, octets: &[u8]) -> bool {
+    fn carry_to(&mut self, octets: &[u8]) -> bool
+        ensures { NoteStep result self.old self.new }
+    {
         let carried = carry(&mut self.client, &mut self.server, octets);
         self.note(carried)
     }
 
     /// Carries octets from the server to the client. Returns whether all were carried.
-    fn carry_from(&mut self, octets: &[u8]) -> bool {
+    fn carry_from(&mut self, octets: &[u8]) -> bool
+        ensures { NoteStep result self.old self.new }
+    {
         let carried = carry(&mut self.server, &mut self.client, octets);
         self.note(carried)
     }
@@ -108,8 +116,15 @@ impl<S: Read + Write> Pair<S> {
 
 impl<S: Read + Write> Channel for Loopback<S> {
     ghost use Rattle.std.specs.Prelude.{false};
+    ghost use Rattle.zoom_tcp.specs.Loopback.{PieceStep, IsNoted};
 
     ghost sure = { false };
+
+    ghost carries_to = { PieceStep };
+
+    ghost carries_from = { PieceStep };
+
+    ghost fails = { IsNoted };
 
     fn carry_to(&mut self, c: u32, piece: &[u8]) -> bool {
         match self.pairs.get_mut(c as usize) {
@@ -146,7 +161,9 @@ fn run_on<S: Read + Write>(
     requires new { AreNew targets.items }
     requires equal { length targets.items ≡ length questions.items }
     // the run
-    ensures { IfOk result (λ meta. IsRun questions.items settings targets.items meta) }
+    ensures is_run { IfOk result (λ meta. IsRun questions.items settings targets.items meta) }
+    ensures moved { IfOk result (λ meta. IsMovedRun PieceStep PieceStep IsNoted
+        questions.items settings targets.items [] way.old way.new meta) }
 {
     run_over(alloc, questions, settings, targets, way, &[])
 }
@@ -156,7 +173,9 @@ fn pair_of<N: Net>(
     net: &N,
     listener: &N::Listener,
     address: SocketAddr,
-) -> io::Result<Pair<N::Stream>> {
+) -> io::Result<Pair<N::Stream>>
+    ensures { IfOk result (λ pair. pair.failure ≡ None) }
+{
     let client = TcpStream::connect_timeout(net, &address, Duration::from_secs(PATIENCE))?;
     let (server, _) = listener.accept()?;
     set_limits(&client)?;
@@ -173,7 +192,9 @@ fn open_loopback<N: Net>(
     alloc: Global,
     net: &N,
     count: usize,
-) -> Result<Loopback<N::Stream>, ServeError> {
+) -> Result<Loopback<N::Stream>, ServeError>
+    ensures { IfOk result (λ way. AreSound way) }
+{
     let Ok(listener) = TcpListener::bind(net, "127.0.0.1:0") else {
         return Err(ServeError::Listen);
     };
@@ -195,7 +216,7 @@ fn open_loopback<N: Net>(
 /// Puts each question to the target of the same number, as `run_world` does without moves, over TCP on 127.0.0.1
 /// (Z39.50-2003, 3.2). Both ends of each connection are in this process. Each write has at most 4,096 octets and is
 /// read at the other end before the next write. If a write does not arrive as it was written, its own connection
-/// alone fails.
+/// alone fails. No connection is stopped for another reason, unless 2^64 - 1 rounds were made.
 ///
 /// There are fewer than 2^32 questions, and as many targets.
 ///
@@ -215,7 +236,9 @@ pub fn run_loopback<N: Net>(
     requires new { AreNew targets.items }
     requires equal { length targets.items ≡ length questions.items }
     // the run
-    ensures { IfOk result (λ meta. IsRun questions.items settings targets.items meta) }
+    ensures is_run { IfOk result (λ meta. IsRun questions.items settings targets.items meta) }
+    ensures own { IfOk result
+        (λ meta. IsLoopbackRun N.Stream questions.items settings targets.items meta) }
 {
     let mut way = open_loopback(alloc, net, questions.len())?;
     Ok(run_on(alloc, questions, settings, targets, &mut way)?)

@@ -1,8 +1,9 @@
 //! The names of hosts, and when each is to be resolved.
-ghost use Rattle.std.specs.Prelude.{IfOk, IfSome, OnOk};
+ghost use Rattle.std.specs.Prelude.{◌≡◌, [], IfOk, IfSome, OnOk};
 ghost use Rattle.zoom_tcp.specs.Families.{AreUsed};
 
 use crate::limits::Family;
+use crate::notice::Notice;
 use bytes::Bytes;
 use indexmap::IndexMap;
 use std::alloc::{AllocError, Global};
@@ -69,20 +70,37 @@ impl Names {
     }
 }
 
+/// The addresses that were found for a name, and what is noticed if there are none.
+#[derive(Drop)]
+pub(crate) struct Found {
+    pub(crate) addresses: Vec<SocketAddr>,
+    pub(crate) notice: Notice,
+}
+
+/// No addresses, for this reason.
+fn none_for(alloc: Global, notice: Notice) -> Found
+    ensures { result.addresses.items ≡ [] }
+{
+    Found {
+        addresses: Vec::new(alloc),
+        notice,
+    }
+}
+
 /// The addresses of a name that is one in numbers: itself, or none if it is not used. `None` if it is another name.
 pub(crate) fn addresses_in(
     alloc: Global,
     name: &[u8],
     family: Family,
-) -> Result<Option<Vec<SocketAddr>>, AllocError>
-    ensures { IfOk result (λ found. IfSome found (λ addresses. AreUsed family addresses.items)) }
+) -> Result<Option<Found>, AllocError>
+    ensures { IfOk result (λ found. IfSome found (λ it. AreUsed family it.addresses.items)) }
 {
     let Some(address) = address_in(name) else {
         return Ok(None);
     };
-    let mut addresses = Vec::new(alloc);
-    push_used(&mut addresses, family, address)?;
-    Ok(Some(addresses))
+    let mut found = none_for(alloc, Notice::NoFamily);
+    push_used(&mut found.addresses, family, address)?;
+    Ok(Some(found))
 }
 
 /// The address that stands for itself, if the name is one in numbers.
@@ -112,18 +130,19 @@ pub(crate) fn resolve<N: Net>(
     net: &N,
     name: &[u8],
     family: Family,
-) -> Result<Vec<SocketAddr>, AllocError>
-    ensures { IfOk result (λ addresses. AreUsed family addresses.items) }
+) -> Result<Found, AllocError>
+    ensures { IfOk result (λ found. AreUsed family found.addresses.items) }
 {
-    let mut addresses = Vec::new(alloc);
     let Ok(text) = str::from_utf8(name) else {
-        return Ok(addresses);
+        return Ok(none_for(alloc, Notice::NoName));
     };
-    let Ok(found) = text.to_socket_addrs(net) else {
-        return Ok(addresses);
+    let addresses = match text.to_socket_addrs(net) {
+        Ok(addresses) => addresses,
+        Err(error) => return Ok(none_for(alloc, Notice::of_name(&error))),
     };
-    for address in found {
-        push_used(&mut addresses, family, address)?;
+    let mut found = none_for(alloc, Notice::NoFamily);
+    for address in addresses {
+        push_used(&mut found.addresses, family, address)?;
     }
-    Ok(addresses)
+    Ok(found)
 }

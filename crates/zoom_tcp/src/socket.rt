@@ -1,4 +1,5 @@
 //! One socket, read and written without waiting.
+use crate::notice::Notice;
 use libc::net as c;
 use mio::event::Event;
 use mio::net::TcpStream;
@@ -24,7 +25,7 @@ pub(crate) enum Moved {
 pub(crate) enum Progress {
     Connected,
     Pending,
-    Refused,
+    Failed(Notice),
 }
 
 /// A socket, and what it was reported to be ready for.
@@ -88,12 +89,12 @@ impl Socket {
     pub(crate) fn progress(&self) -> Progress {
         match self.stream.take_error() {
             Ok(None) => {}
-            _ => return Progress::Refused,
+            Ok(Some(error)) | Err(error) => return Progress::Failed(Notice::of_attempt(&error)),
         }
         match self.stream.peer_addr() {
             Ok(_) => Progress::Connected,
             Err(error) if error.kind() == ErrorKind::NotConnected => Progress::Pending,
-            Err(_) => Progress::Refused,
+            Err(error) => Progress::Failed(Notice::of_attempt(&error)),
         }
     }
 

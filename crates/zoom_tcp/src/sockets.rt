@@ -1,6 +1,7 @@
 //! The sockets of all hosts, watched by one poll of the system.
 use crate::failures::is_for_want;
 use crate::host::Host;
+use crate::notice::Notice;
 use crate::socket::{Moved, Progress, Socket};
 use mio::event::Event;
 use mio::net::TcpStream;
@@ -104,11 +105,19 @@ impl<'a, N: Net> Sockets<'a, N> {
         all.get(..count).unwrap_or(all)
     }
 
-    /// These are the addresses of a connection's host.
-    pub(crate) fn know(&mut self, c: u32, addresses: Vec<SocketAddr>) {
+    /// These are the addresses of a connection's host. If there are none, that is why.
+    pub(crate) fn know(&mut self, c: u32, addresses: Vec<SocketAddr>, notice: Notice) {
         if let Some(host) = self.hosts.get_mut(c as usize) {
+            if addresses.is_empty() {
+                host.note(notice);
+            }
             host.addresses = addresses;
         }
+    }
+
+    /// What was noticed of each host.
+    pub(crate) fn notices(&self, alloc: Global) -> Result<Vec<Notice>, AllocError> {
+        self.hosts.iter().map(|host| host.notice()).collect(alloc)
     }
 
     /// Begins an attempt to connect. Returns why it failed, if it did at once.
@@ -126,7 +135,10 @@ impl<'a, N: Net> Sockets<'a, N> {
                 Ok(None)
             }
             Err(error) if is_for_want(&error) => Ok(Some(Report::NoSocket(k))),
-            Err(_) => Ok(Some(Report::Unreachable(k))),
+            Err(error) => {
+                host.note_attempt(Notice::of_attempt(&error));
+                Ok(Some(Report::Unreachable(k)))
+            }
         }
     }
 
@@ -268,9 +280,11 @@ impl<'a, N: Net> Sockets<'a, N> {
             Progress::Connected => {
                 socket.is_connected = true;
                 host.connected = host.connected.or(Some(k));
+                host.note(Notice::Nothing);
                 Some(Happening::Report(Report::Connected(k)))
             }
-            Progress::Refused => {
+            Progress::Failed(notice) => {
+                host.note_attempt(notice);
                 self.leave(c, k);
                 Some(Happening::Report(Report::Unreachable(k)))
             }
@@ -287,6 +301,9 @@ impl<'a, N: Net> Sockets<'a, N> {
             return Ok(None);
         }
         let moved = host.write(k);
+        if moved == Moved::Failure {
+            host.note(Notice::Reset);
+        }
         self.queue_if_ready(c, k)?;
         match moved {
             Moved::Octets(_) => Ok(Some(Report::Taken)),
@@ -304,6 +321,11 @@ impl<'a, N: Net> Sockets<'a, N> {
             return Ok(None);
         };
         let moved = socket.read(&mut self.piece);
+        match moved {
+            Moved::End => host.note(Notice::Ended),
+            Moved::Failure => host.note(Notice::Reset),
+            _ => {}
+        }
         self.heard.push((c, k))?;
         self.queue_if_ready(c, k)?;
         match moved {

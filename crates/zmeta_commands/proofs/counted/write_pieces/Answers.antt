@@ -1,6 +1,6 @@
 use Rattle.std.proofs.Common.{◌≡◌, [], rules, drop_of_length-le}
 use Rattle.zmeta_commands.proofs.DeviceSteps.{put_piece, put_all}
-use Rattle.zmeta_commands.proofs.output.write_pieces.Goals as goal
+use Rattle.zmeta_commands.proofs.counted.write_pieces.Goals as goal
 
 pub loop-preserved : goal.loop-preserved
 loop-preserved g c = put_piece _ _ _ _ _ c.in-Some.count c.write_piece.result c.loop.invariant c.write_piece.ensures.bytes c.in-Some.is
