@@ -1,9 +1,9 @@
 #!/usr/bin/env python3
-"""Asks catalogues with `zmeta ask --json`, and prints the year and the title of each record, or how many octets it has.
+"""Asks catalogues with `zmeta ask --json`, and prints the year, the title and the author of each record, or how many octets it has.
 
     python3 examples/ask.py FILE [OPTIONS]       for example: ask.py catalogues --at-once --title dune
 
-Years and titles of MARC 21 records need pymarc. ZMETA may have the path of zmeta; else it is on the command path."""
+ZMETA may have the path of zmeta; else it is on the command path."""
 
 import base64
 import json
@@ -11,22 +11,11 @@ import os
 import subprocess
 import sys
 
-try:
-    import pymarc
-except ImportError:
-    pymarc = None
-
 
 def shown(record):
+    texts = [record[it] for it in ("year", "title", "author") if it in record]
     octets = base64.b64decode(record.get("octets", record.get("encoding")))
-    if pymarc and "octets" in record and record["syntax"] == "1.2.840.10003.5.10":
-        try:
-            marc = pymarc.Record(data=octets)
-            years = [it.data[7:11] for it in marc.get_fields("008")]
-            return "  ".join(years[:1] + [it.format_field() for it in marc.get_fields("245")])
-        except (pymarc.exceptions.PymarcException, ValueError):
-            pass
-    return f"{len(octets)} octets"
+    return "  ".join(texts) or f"{len(octets)} octets"
 
 
 zmeta = os.environ.get("ZMETA", "zmeta")

@@ -28,6 +28,7 @@ import names
 import replies
 import saving
 import served
+import stops
 import streams
 import terminal
 import views
@@ -171,6 +172,8 @@ def main():
         print(f"program: {count} sessions with its server")
         faults += streams.faults(ZMETA, room)
         print("program: long texts over slow streams")
+        faults += stops.faults(ZMETA, room)
+        print(f"program: {len(stops.HOSTS)} hosts that stop, in the view and in JSON")
         faults += saving.faults(ZMETA, room)
         print("program: saved files where saving may fail")
         faults += large.faults(ZMETA, room)

@@ -19,6 +19,8 @@ import sys
 import tempfile
 from concurrent.futures import ThreadPoolExecutor
 
+import marc_made
+import marc_model
 import saved
 import worlds
 
@@ -105,9 +107,12 @@ def encoded(octets):
     ((kind, record),) = elements(choice)
     if kind == 0xA1:
         ((_, external),) = elements(record)
-        if external[0] == 0x06:
-            said["syntax"] = dotted(elements(external)[0][1])
+        within = elements(external)
+        if within[0][0] == 0x06:
+            said["syntax"] = dotted(within[0][1])
         said |= received("database", name[0][1]) if name else {}
+        if within[-1][0] == 0x81:
+            said |= marc_model.fields_told(said.get("syntax", ""), within[-1][1])
     return {"type": "record" if kind == 0xA1 else "element"}, {**said, "encoding": coded(octets)}
 
 
@@ -115,7 +120,9 @@ def record(kind, rest):
     """What is said of a record by its part of a line: the type, and the rest."""
     if kind == b"rec":
         syntax, name, octets = OCTETS.fullmatch(rest).groups()
-        said = {"syntax": syntax.decode(), **database(name), "octets": coded(bytes.fromhex(octets.decode()))}
+        octets = bytes.fromhex(octets.decode())
+        told = marc_model.fields_told(syntax.decode(), octets)
+        said = {"syntax": syntax.decode(), **database(name), **told, "octets": coded(octets)}
         return {"type": "record"}, said
     if kind == b"diag":
         name, text = SURROGATE.fullmatch(rest).groups()
@@ -182,7 +189,8 @@ def files_of_worlds(number):
 # saved files
 
 TEXTS = (b"", b"a", b'"\\/', b"\x00\x1f\x7f\x80", b"caf\xe9 ", b"\xe2\x82\"", b"\xed\xa0\x80\xc0\x80\xf4\x90\x80\x80", "Дюна \u2028😀".encode())
-SYNTAXES = (saved.MARC21, saved.SUTRS, "2.100.3", "1.2.840.10003.5.105")
+SYNTAXES = (saved.MARC21, saved.UNIMARC, saved.SUTRS, "2.100.3", "1.2.840.10003.5.105")
+RECORDS = (*marc_made.MARC21_RECORDS, *marc_made.UNIMARC_RECORDS)
 KINDS = (saved.COUNT, saved.FAILED, saved.DIAG, saved.SEEN, saved.SEEN, saved.SEEN)
 SETS = (0, 1, 2, 7, 2**31, 2**32 - 1)
 POSITIONS = (*range(1, 12), 2**53 + 1, 2**63 - 1)
@@ -208,7 +216,7 @@ def condition(dice):
 
 
 def aligned(dice):
-    return saved.element(b"\x81", octets(dice))
+    return saved.element(b"\x81", dice.choice(RECORDS) if dice.randrange(2) else octets(dice))
 
 
 def content(dice):

@@ -1,4 +1,5 @@
-"""An independent model of the view for readers: what the program shows of a record of ISO 2709 in MARC 21 or UNIMARC. It follows the
+"""An independent model of the view for readers and of the fields in lines of JSON: what the program shows of a record of ISO 2709 in
+MARC 21 or UNIMARC. It follows the
 standards and the description of the view in docs/FORMATS.md, and uses Python's own UTF-8 and normalization."""
 
 import re
@@ -170,8 +171,9 @@ def shown(text):
 class Marc21:
     title_tag, maker_code, isbn_tag = "245", "c", "020"
     headings = ("100", "110", "111")
-    # what is shown of the title, and the mark of ISBD before it
+    # what is shown of the title, and the mark of ISBD before it; what of it is not the statement of responsibility
     title_codes = dict.fromkeys("abnpc")
+    title_alone = "abnp"
     dates = (("264", "c"), ("260", "c"), ("260", "g"))
     other_text = staticmethod(marc8_text)
 
@@ -188,6 +190,7 @@ class Unimarc:
     title_tag, maker_code, isbn_tag = "200", "f", "010"
     headings = ("700", "710")
     title_codes = {"a": None, "e": ":", "f": "/", "g": ";"}
+    title_alone = "ae"
     dates = (("214", "d"), ("210", "d"))
     other_text = staticmethod(ascii_text)
 
@@ -211,19 +214,22 @@ def year(form, record):
     return coded.decode() if re.fullmatch(rb"[0-9]{4}", coded) else ""
 
 
-def title(form, record):
+def title(form, record, codes):
     for code, data in subfields(record.first(form.title_tag)):
-        if code in form.title_codes and data:
+        if code in codes and data:
             mark = form.title_codes[code]
             yield from [mark.encode(), data] if mark else [data]
 
 
+def heading(form, record):
+    """The main heading; None if there is none."""
+    return next(filter(None, (record.value(tag, "a") for tag in form.headings)), None)
+
+
 def maker(form, record):
     """The main heading, if the title does not say who made it."""
-    if record.value(form.title_tag, form.maker_code) is None:
-        heading = next(filter(None, (record.value(tag, "a") for tag in form.headings)), None)
-        if heading:
-            yield from (b"/", heading)
+    if record.value(form.title_tag, form.maker_code) is None and heading(form, record):
+        yield from (b"/", heading(form, record))
 
 
 def isbn(form, record):
@@ -233,17 +239,52 @@ def isbn(form, record):
     return [b"ISBN", numbers[0]] if numbers else []
 
 
+def joined(form, octets, record, pieces):
+    """The text of pieces, in the character set of the record."""
+    is_utf8 = form.says_utf8(octets, record) or is_utf8_beyond_ascii(own_octets(octets))
+    meant = utf8_text if is_utf8 else form.other_text
+    line = ""
+    for piece in pieces:
+        line += (" " if line else "") + shown(meant(piece))
+    return line
+
+
 def marc_entry(form, octets):
     fields = fields_of(octets)
     if fields is None:
         return "", f"no record, {len(octets)} octets"
     record = Record(fields)
-    is_utf8 = form.says_utf8(octets, record) or is_utf8_beyond_ascii(own_octets(octets))
-    meant = utf8_text if is_utf8 else form.other_text
-    line = ""
-    for piece in [*title(form, record), *maker(form, record), *isbn(form, record)]:
-        line += (" " if line else "") + shown(meant(piece))
-    return year(form, record), line or f"no title, {len(octets)} octets"
+    pieces = [*title(form, record, form.title_codes), *maker(form, record), *isbn(form, record)]
+    return year(form, record), joined(form, octets, record, pieces) or f"no title, {len(octets)} octets"
+
+
+# The fields that programs are told
+
+
+def without_marks(pieces):
+    """Pieces without the spaces and marks of ISBD at the end of all."""
+    pieces = [*pieces]
+    while pieces:
+        last = pieces.pop().rstrip(b" /:;,=")
+        if last:
+            return [*pieces, last]
+    return []
+
+
+def fields_told(syntax, octets):
+    """What a record has of year, title, author and ISBN; nothing of octets that are not read as MARC."""
+    form, fields = form_of(syntax, octets), fields_of(octets)
+    if form is None or fields is None:
+        return {}
+    record = Record(fields)
+    author = heading(form, record) or record.value(form.title_tag, form.maker_code)
+    texts = {
+        "year": year(form, record),
+        "title": joined(form, octets, record, without_marks(title(form, record, form.title_alone))),
+        "author": joined(form, octets, record, without_marks([author] if author else [])),
+        "isbn": joined(form, octets, record, isbn(form, record)[1:]),
+    }
+    return {name: text for name, text in texts.items() if text}
 
 
 # The view
@@ -254,19 +295,25 @@ def sutrs_entry(octets):
     return "", line if len(line) <= 200 else line[:200] + "\N{HORIZONTAL ELLIPSIS}"
 
 
+def form_of(syntax, octets):
+    """The format that octets in a syntax are read in; None if they are not read as MARC."""
+    if syntax in (SUTRS, XML):
+        return None
+    if syntax == UNIMARC:
+        return Unimarc
+    front, _, last = syntax.rpartition(".")
+    is_marc = front == MARC21.rpartition(".")[0] and int(last) < 100
+    return Marc21 if is_marc or fields_of(octets) is not None else None
+
+
 def entry(syntax, octets):
     """The year and the text that are shown of a record."""
     if syntax == SUTRS:
         return sutrs_entry(octets)
     if syntax == XML:
         return "", f"XML, {len(octets)} octets"
-    if syntax == UNIMARC:
-        return marc_entry(Unimarc, octets)
-    front, _, last = syntax.rpartition(".")
-    is_marc = front == MARC21.rpartition(".")[0] and int(last) < 100
-    if is_marc or fields_of(octets) is not None:
-        return marc_entry(Marc21, octets)
-    return "", f"record of syntax {syntax}, {len(octets)} octets"
+    form = form_of(syntax, octets)
+    return marc_entry(form, octets) if form else ("", f"record of syntax {syntax}, {len(octets)} octets")
 
 
 def heads(names, counts, found):

@@ -1,5 +1,5 @@
--- The text consists of lines of JSON, whatever the names and the facts are.
-use Rattle.std.specs.Prelude.{◌≡◌, ◌≤◌, ℕ, List, ◌++◌, All, codes}
+-- The text consists of lines of JSON, whatever the names, the stops and the facts are.
+use Rattle.std.specs.Prelude.{◌≡◌, ◌≤◌, ℕ, Option, List, ◌++◌, All, codes}
 use Rattle.std.specs.List.{flat_map}
 use Rattle.std.specs.Str.{IsUtf8}
 use Rattle.json.specs.Json.{Members, object}
@@ -7,6 +7,7 @@ use Rattle.json.specs.Print.{print}
 use Rattle.json.specs.Strict.{HasUniqueKeys}
 use Rattle.json.specs.Tree.{json_tokens, MembersHaveNumbers}
 use Rattle.zknow.specs.declared.fact.Fact.{Fact}
+use Rattle.zknow_stops.specs.declared.stop.Stop.{Stop}
 use Rattle.zknow_json.specs.Lines.{json_lines}
 
 -- the text of a JSON object with these members
@@ -31,6 +32,8 @@ pub record AreJsonLines (octets : List ℕ) : Type 0 where
   pub json : All IsJsonObject objects
   pub no_control : All (λ o. HasNoControl (object_text o)) objects
 
--- whatever the names and the facts are
+-- whatever the names, the stops and the facts are
 abbrev pub LinesLaw : Type 0
-LinesLaw = (names : List (List ℕ)) (facts : List Fact) → AreJsonLines (json_lines names facts)
+LinesLaw =
+    (names : List (List ℕ)) (stops : List (Option Stop)) (facts : List Fact)
+    → AreJsonLines (json_lines names stops facts)

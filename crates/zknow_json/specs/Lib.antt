@@ -1,5 +1,7 @@
+pub mod Fields
 pub mod Laws
 pub mod Lines
 pub mod Members
 pub mod Records
 pub mod Sets
+pub mod Stops

@@ -1,11 +1,14 @@
-//! What is known as lines of JSON, for programs: an object for each line of the list.
+//! What is known as lines of JSON, for programs: an object for each line of the list, and for each catalogue that
+//! stopped.
 #![tactic(auto)]
 
 mod encoding;
+mod fields;
 pub mod laws;
 mod line;
 mod lines;
 mod records;
 mod sets;
+mod stops;
 
 pub use lines::print_json;

@@ -86,11 +86,11 @@ impl Line {
 
     /// Writes a member with a natural number.
     #[tactic(auto, unfolding(crate::specs::Members::natural_member))]
-    pub(crate) fn put_natural(&mut self, name: &str, number: u32) -> Result<(), AllocError>
+    pub(crate) fn put_natural(&mut self, name: &str, number: u64) -> Result<(), AllocError>
         ensures { OnOk result (self.new ≡ self.old ++ natural_member name.now number) }
     {
         self.writer.key(name)?;
-        self.writer.u64(number as u64)
+        self.writer.u64(number)
     }
 
     /// Writes a member with an integer.

@@ -8,8 +8,10 @@ ghost use Rattle.zknow_json.specs.Sets.{set_lines};
 
 use crate::records::put_row;
 use crate::sets::put_set_lines;
+use crate::stops::put_stops;
 use std::alloc::{AllocError, Global};
 use zknow::{Knowledge, Names, RowKey, SetKey};
+use zknow_stops::Stop;
 
 /// Appends the lines of each set.
 fn put_sets(
@@ -47,20 +49,28 @@ fn put_rows(
 
 /// Returns all lines.
 #[tactic(auto, unfolding(crate::specs::Lines::json_lines))]
-fn lines(alloc: Global, knowledge: &Knowledge, names: &Names) -> Result<String, AllocError>
-    ensures { IfOk result (λ text. string_bytes text ≡ json_lines names.now knowledge.now) }
+fn lines(
+    alloc: Global,
+    knowledge: &Knowledge,
+    names: &Names,
+    stops: &[Option<Stop>],
+) -> Result<String, AllocError>
+    ensures { IfOk result (λ text. string_bytes text ≡ json_lines names.now stops.now knowledge.now) }
 {
     let mut text = String::new(alloc);
     let sets = knowledge.sets()?;
     put_sets(alloc, names, knowledge, &sets, &mut text)?;
+    put_stops(alloc, names, stops, &mut text)?;
     let rows = knowledge.rows()?;
     put_rows(alloc, names, knowledge, &rows, &mut text)?;
     Ok(text)
 }
 
 /// Appends what is known as lines of JSON, one object each, in the order of the list. A target's set has an object for
-/// each count, for its failure and for each diagnostic. After all sets, each position at which a record is known has an
-/// object, by position, target and set. If different records are known at a position, its object has all of them.
+/// each count, for its failure and for each diagnostic. After all sets, each target that stopped has an object: entry
+/// `c` of `stops` says why the connection of target `c` did; without an entry it did not. Then each position at which a
+/// record is known has an object, by position, target and set. If different records are known at a position, its
+/// object has all of them.
 ///
 /// A target has its name in `names`, else its number. What stands for octets that are not UTF-8, and which members each
 /// object has, is in `CALLING.md`.
@@ -70,12 +80,13 @@ pub fn print_json(
     alloc: Global,
     knowledge: &Knowledge,
     names: &Names,
+    stops: &[Option<Stop>],
     out: &mut Vec<u8>,
 ) -> Result<(), AllocError>
-    ensures ok { OnOk result (out.new.items ≡ out.old.items ++ json_lines names.now knowledge.now) }
+    ensures ok { OnOk result (out.new.items ≡ out.old.items ++ json_lines names.now stops.now knowledge.now) }
     ensures err { OnErr result (out.new.items ≡ out.old.items) }
-    ensures utf8 { OnOk result (IsUtf8 (json_lines names.now knowledge.now)) }
+    ensures utf8 { OnOk result (IsUtf8 (json_lines names.now stops.now knowledge.now)) }
 {
-    let text = lines(alloc, knowledge, names)?;
+    let text = lines(alloc, knowledge, names, stops)?;
     out.extend_from_slice(text.as_str().as_bytes())
 }

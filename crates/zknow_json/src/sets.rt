@@ -12,11 +12,11 @@ use zapdu::{DefaultDiag, DiagRec, Info};
 use zknow::{Knowledge, Known, Names, SetKey};
 
 /// Writes the name of a catalogue, or its number if it has no name.
-fn put_catalogue(names: &Names, target: u32, line: &mut Line) -> Result<(), AllocError>
+pub(crate) fn put_catalogue(names: &Names, target: usize, line: &mut Line) -> Result<(), AllocError>
     ensures { OnOk result (line.new ≡ line.old ++ catalogue_member target (slice_get names.now target)) }
 {
-    match names.as_slice().get(target as usize) {
-        None => line.put_natural("catalogueNumber", target),
+    match names.as_slice().get(target) {
+        None => line.put_natural("catalogueNumber", target as u64),
         Some(name) => line.put_received("catalogue", "catalogueOctets", name.as_slice()),
     }
 }
@@ -28,7 +28,7 @@ fn put_set(set: u32, line: &mut Line) -> Result<(), AllocError>
     if set == 0 {
         return Ok(());
     }
-    line.put_natural("set", set)
+    line.put_natural("set", set as u64)
 }
 
 /// Writes the type of a line, the catalogue and the set.
@@ -43,7 +43,7 @@ pub(crate) fn put_head(
     ensures { OnOk result (line.new ≡ line.old ++ head kind.now names.now target set) }
 {
     line.put_text("type", kind)?;
-    put_catalogue(names, target, line)?;
+    put_catalogue(names, target as usize, line)?;
     put_set(set, line)
 }
 

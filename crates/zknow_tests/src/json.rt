@@ -6,6 +6,7 @@ use std::test::Fail;
 use zber_tests::rows::spells;
 use zber_tests::unread::Unread;
 use zknow_json::print_json;
+use zknow_stops::Stop;
 
 // A saved file, and the lines that are wanted.
 type Vector = (&'static [u8], &'static str);
@@ -89,6 +90,110 @@ const CONFLICTS: Vector = (
     10\",\"database\":\"db\",\"octets\":\"b25l\"}\n",
 );
 
+// Records of MARC, whose fields are members: MARC 21 and UNIMARC; without a title; in MARC-8; with hostile octets; in
+// a syntax that is none of MARC; none of SUTRS; UNIMARC read as MARC 21; with marks alone; several at a position; and one
+// with an indirect reference.
+const FIELDS: Vector = (
+    b"\xa4\x03\x80\x01a\xa2\x82\x016\x80\x01\x00\x81\x01\x01\x82\x01\x010\x82\x01)\x80\x01d\xa1\x82\x01\"\
+    \xa1\x82\x01\x1e(\x82\x01\x1a\x06\x07*\x86H\xce\x13\x05\n\x81\x82\x01\r00269nam a2200097 a 45000080\
+    04100000020001100041020002200052100003200074245003800106260002700144\x1e910710s1966    nyu         \
+    \x20 000 1 eng  \x1e  \x1fa(pbk.)\x1e  \x1fa0801950775 (hbk.)\x1e1 \x1faHerbert, Frank,\x1fd1920-19\
+    86.\x1e10\x1faDune :\x1fba novel /\x1fcFrank Herbert.\x1e  \x1faPhiladelphia :\x1fc[1965]\x1e\x1d\
+    \xa2\x81\xf3\x80\x01\x00\x81\x01\x01\x82\x01\x020\x81\xe7\xa1\x81\xe4\xa1\x81\xe1(\x81\xde\x06\x07*\
+    \x86H\xce\x13\x05\x01\x81\x81\xd200210nam  2200073 a 4500010002300000100004100023200005400064700001\
+    800118\x1e  \x1fa2-07-036024-8\x1fbbr.\x1e  \x1fa20040722d1942    m  y0frey50      ba\x1e1 \x1faL\
+    \xe2\x80\x99\xc3\xa9tranger\x1feroman\x1ffAlbert Camus\x1fgpr\xc3\xa9face de X\x1e |\x1faCamus\x1fb\
+    Albert\x1e\x1d\xa2y\x80\x01\x00\x81\x01\x01\x82\x01\x030n\xa1l\xa1j(h\x06\x07*\x86H\xce\x13\x05\n\
+    \x81]00093nam a2200049 a 4500001000200000008004100002\x1e1\x1e910710s1990    nyu           000 1 en\
+    g  \x1e\x1d\xa2f\x80\x01\x00\x81\x01\x01\x82\x01\x040[\xa1Y\xa1W(U\x06\x07*\x86H\xce\x13\x05\n\x81J\
+    00074nam  2200037 a 4500245003600000\x1e10\x1faDvo\xe9r\xe2ak na\xe8\xf2ive /\x1fcA. D\xe8oblin.\
+    \x1e\x1d\xa2z\x80\x01\x00\x81\x01\x01\x82\x01\x050o\xa1m\xa1k(i\x06\x07*\x86H\xce\x13\x05\n\x81^000\
+    94nam a2200049 a 4500245003300000020001100033\x1e10\x1faa\xe2\x80\xaeb\x1b[2J\n\"c\\\xe2\x80\xa8\
+    \x07 /\x1fb\xff\xc3 : ; \x1e  \x1fa1\xe2\x80\x8b\x1bx\x1e\x1d\xa2\x82\x016\x80\x01\x00\x81\x01\x01\
+    \x82\x01\x060\x82\x01)\xa1\x82\x01%\xa1\x82\x01!(\x82\x01\x1d\x06\n*\x86H\xce\x13\x05\x87hQ\x02\x81\
+    \x82\x01\r00269nam a2200097 a 450000800410000002000110004102000220005210000320007424500380010626000\
+    2700144\x1e910710s1966    nyu           000 1 eng  \x1e  \x1fa(pbk.)\x1e  \x1fa0801950775 (hbk.)\
+    \x1e1 \x1faHerbert, Frank,\x1fd1920-1986.\x1e10\x1faDune :\x1fba novel /\x1fcFrank Herbert.\x1e  \
+    \x1faPhiladelphia :\x1fc[1965]\x1e\x1d\xa2\x82\x013\x80\x01\x00\x81\x01\x01\x82\x01\x070\x82\x01&\
+    \xa1\x82\x01\"\xa1\x82\x01\x1e(\x82\x01\x1a\x06\x07*\x86H\xce\x13\x05e\x81\x82\x01\r00269nam a22000\
+    97 a 4500008004100000020001100041020002200052100003200074245003800106260002700144\x1e910710s1966   \
+    \x20nyu           000 1 eng  \x1e  \x1fa(pbk.)\x1e  \x1fa0801950775 (hbk.)\x1e1 \x1faHerbert, Frank\
+    ,\x1fd1920-1986.\x1e10\x1faDune :\x1fba novel /\x1fcFrank Herbert.\x1e  \x1faPhiladelphia :\x1fc[19\
+    65]\x1e\x1d\xa2\x81\xf3\x80\x01\x00\x81\x01\x01\x82\x01\x080\x81\xe7\xa1\x81\xe4\xa1\x81\xe1(\x81\
+    \xde\x06\x07*\x86H\xce\x13\x05\n\x81\x81\xd200210nam  2200073 a 45000100023000001000041000232000054\
+    00064700001800118\x1e  \x1fa2-07-036024-8\x1fbbr.\x1e  \x1fa20040722d1942    m  y0frey50      ba\
+    \x1e1 \x1faL\xe2\x80\x99\xc3\xa9tranger\x1feroman\x1ffAlbert Camus\x1fgpr\xc3\xa9face de X\x1e |\
+    \x1faCamus\x1fbAlbert\x1e\x1d\xa2`\x80\x01\x00\x81\x01\x01\x82\x01\t0U\xa1S\xa1Q(O\x06\x07*\x86H\
+    \xce\x13\x05\n\x81D00068nam a2200049 a 4500100000700000245001100007\x1e1 \x1fa ,\x1e10\x1fa= ;\x1fb\
+    /\x1e\x1d\xa2f\x80\x01\x00\x81\x01\x01\x82\x01\n0[\xa1Y\xa1W(U\x06\x07*\x86H\xce\x13\x05\n\x81J0007\
+    4nam  2200037 a 4500245003600000\x1e10\x1faDvo\xe9r\xe2ak na\xe8\xf2ive /\x1fcA. D\xe8oblin.\x1e\
+    \x1d\xa2\x81\xf3\x80\x01\x00\x81\x01\x01\x82\x01\n0\x81\xe7\xa1\x81\xe4\xa1\x81\xe1(\x81\xde\x06\
+    \x07*\x86H\xce\x13\x05\x01\x81\x81\xd200210nam  2200073 a 45000100023000001000041000232000054000647\
+    00001800118\x1e  \x1fa2-07-036024-8\x1fbbr.\x1e  \x1fa20040722d1942    m  y0frey50      ba\x1e1 \
+    \x1faL\xe2\x80\x99\xc3\xa9tranger\x1feroman\x1ffAlbert Camus\x1fgpr\xc3\xa9face de X\x1e |\x1faCamu\
+    s\x1fbAlbert\x1e\x1d\xa2i\x80\x01\x00\x81\x01\x01\x82\x01\x0b0^\xa1\\\xa1Z(X\x06\x07*\x86H\xce\x13\
+    \x05\n\x02\x01\x03\x81J00074nam  2200037 a 4500245003600000\x1e10\x1faDvo\xe9r\xe2ak na\xe8\xf2ive \
+    /\x1fcA. D\xe8oblin.\x1e\x1d",
+    "\
+    {\"type\":\"record\",\"catalogue\":\"a\",\"set\":1,\"position\":1,\"syntax\":\"1.2.840.10003.5.10\"\
+    ,\"database\":\"d\",\"year\":\"1965\",\"title\":\"Dune : a novel\",\"author\":\"Herbert, Frank\",\"\
+    isbn\":\"0801950775\",\"octets\":\"MDAyNjluYW0gYTIyMDAwOTcgYSA0NTAwMDA4MDA0MTAwMDAwMDIwMDAxMTAwMDQx\
+    MDIwMDAyMjAwMDUyMTAwMDAzMjAwMDc0MjQ1MDAzODAwMTA2MjYwMDAyNzAwMTQ0HjkxMDcxMHMxOTY2ICAgIG55dSAgICAgICA\
+    gICAgMDAwIDEgZW5nICAeICAfYShwYmsuKR4gIB9hMDgwMTk1MDc3NSAoaGJrLikeMSAfYUhlcmJlcnQsIEZyYW5rLB9kMTkyMC\
+    0xOTg2Lh4xMB9hRHVuZSA6H2JhIG5vdmVsIC8fY0ZyYW5rIEhlcmJlcnQuHiAgH2FQaGlsYWRlbHBoaWEgOh9jWzE5NjVdHh0=\
+    \"}\n\
+    {\"type\":\"record\",\"catalogue\":\"a\",\"set\":1,\"position\":2,\"syntax\":\"1.2.840.10003.5.1\",\
+    \"year\":\"1942\",\"title\":\"L\u{2019}\u{e9}tranger : roman\",\"author\":\"Camus\",\"isbn\":\"2-07\
+    -036024-8\",\"octets\":\"MDAyMTBuYW0gIDIyMDAwNzMgYSA0NTAwMDEwMDAyMzAwMDAwMTAwMDA0MTAwMDIzMjAwMDA1ND\
+    AwMDY0NzAwMDAxODAwMTE4HiAgH2EyLTA3LTAzNjAyNC04H2Jici4eICAfYTIwMDQwNzIyZDE5NDIgICAgbSAgeTBmcmV5NTAgI\
+    CAgICBiYR4xIB9hTOKAmcOpdHJhbmdlch9lcm9tYW4fZkFsYmVydCBDYW11cx9ncHLDqWZhY2UgZGUgWB4gfB9hQ2FtdXMfYkFs\
+    YmVydB4d\"}\n\
+    {\"type\":\"record\",\"catalogue\":\"a\",\"set\":1,\"position\":3,\"syntax\":\"1.2.840.10003.5.10\"\
+    ,\"year\":\"1990\",\"octets\":\"MDAwOTNuYW0gYTIyMDAwNDkgYSA0NTAwMDAxMDAwMjAwMDAwMDA4MDA0MTAwMDAyHjE\
+    eOTEwNzEwczE5OTAgICAgbnl1ICAgICAgICAgICAwMDAgMSBlbmcgIB4d\"}\n\
+    {\"type\":\"record\",\"catalogue\":\"a\",\"set\":1,\"position\":4,\"syntax\":\"1.2.840.10003.5.10\"\
+    ,\"title\":\"Dvo\u{159}\u{e1}k na\u{1ecb}\u{308}ve\",\"author\":\"A. D\u{f6}blin.\",\"octets\":\"MD\
+    AwNzRuYW0gIDIyMDAwMzcgYSA0NTAwMjQ1MDAzNjAwMDAwHjEwH2FEdm/pcuJhayBuYejyaXZlIC8fY0EuIETob2JsaW4uHh0=\
+    \"}\n\
+    {\"type\":\"record\",\"catalogue\":\"a\",\"set\":1,\"position\":5,\"syntax\":\"1.2.840.10003.5.10\"\
+    ,\"title\":\"a\u{fffd}b\u{fffd}[2J \\\"c\\\\\u{fffd}\u{fffd} / \u{fffd}\u{fffd}\",\"isbn\":\"1\
+    \u{fffd}\u{fffd}x\",\"octets\":\"MDAwOTRuYW0gYTIyMDAwNDkgYSA0NTAwMjQ1MDAzMzAwMDAwMDIwMDAxMTAwMDMzHj\
+    EwH2Fh4oCuYhtbMkoKImNc4oCoByAvH2L/wyA6IDsgHiAgH2Ex4oCLG3geHQ==\"}\n\
+    {\"type\":\"record\",\"catalogue\":\"a\",\"set\":1,\"position\":6,\"syntax\":\"1.2.840.10003.5.1000\
+    .81.2\",\"year\":\"1965\",\"title\":\"Dune : a novel\",\"author\":\"Herbert, Frank\",\"isbn\":\"080\
+    1950775\",\"octets\":\"MDAyNjluYW0gYTIyMDAwOTcgYSA0NTAwMDA4MDA0MTAwMDAwMDIwMDAxMTAwMDQxMDIwMDAyMjAw\
+    MDUyMTAwMDAzMjAwMDc0MjQ1MDAzODAwMTA2MjYwMDAyNzAwMTQ0HjkxMDcxMHMxOTY2ICAgIG55dSAgICAgICAgICAgMDAwIDE\
+    gZW5nICAeICAfYShwYmsuKR4gIB9hMDgwMTk1MDc3NSAoaGJrLikeMSAfYUhlcmJlcnQsIEZyYW5rLB9kMTkyMC0xOTg2Lh4xMB\
+    9hRHVuZSA6H2JhIG5vdmVsIC8fY0ZyYW5rIEhlcmJlcnQuHiAgH2FQaGlsYWRlbHBoaWEgOh9jWzE5NjVdHh0=\"}\n\
+    {\"type\":\"record\",\"catalogue\":\"a\",\"set\":1,\"position\":7,\"syntax\":\"1.2.840.10003.5.101\
+    \",\"octets\":\"MDAyNjluYW0gYTIyMDAwOTcgYSA0NTAwMDA4MDA0MTAwMDAwMDIwMDAxMTAwMDQxMDIwMDAyMjAwMDUyMTA\
+    wMDAzMjAwMDc0MjQ1MDAzODAwMTA2MjYwMDAyNzAwMTQ0HjkxMDcxMHMxOTY2ICAgIG55dSAgICAgICAgICAgMDAwIDEgZW5nIC\
+    AeICAfYShwYmsuKR4gIB9hMDgwMTk1MDc3NSAoaGJrLikeMSAfYUhlcmJlcnQsIEZyYW5rLB9kMTkyMC0xOTg2Lh4xMB9hRHVuZ\
+    SA6H2JhIG5vdmVsIC8fY0ZyYW5rIEhlcmJlcnQuHiAgH2FQaGlsYWRlbHBoaWEgOh9jWzE5NjVdHh0=\"}\n\
+    {\"type\":\"record\",\"catalogue\":\"a\",\"set\":1,\"position\":8,\"syntax\":\"1.2.840.10003.5.10\"\
+    ,\"author\":\"20040722d1942    m  y0frey50      ba\",\"octets\":\"MDAyMTBuYW0gIDIyMDAwNzMgYSA0NTAwM\
+    DEwMDAyMzAwMDAwMTAwMDA0MTAwMDIzMjAwMDA1NDAwMDY0NzAwMDAxODAwMTE4HiAgH2EyLTA3LTAzNjAyNC04H2Jici4eICAf\
+    YTIwMDQwNzIyZDE5NDIgICAgbSAgeTBmcmV5NTAgICAgICBiYR4xIB9hTOKAmcOpdHJhbmdlch9lcm9tYW4fZkFsYmVydCBDYW1\
+    1cx9ncHLDqWZhY2UgZGUgWB4gfB9hQ2FtdXMfYkFsYmVydB4d\"}\n\
+    {\"type\":\"record\",\"catalogue\":\"a\",\"set\":1,\"position\":9,\"syntax\":\"1.2.840.10003.5.10\"\
+    ,\"octets\":\"MDAwNjhuYW0gYTIyMDAwNDkgYSA0NTAwMTAwMDAwNzAwMDAwMjQ1MDAxMTAwMDA3HjEgH2EgLB4xMB9hPSA7H\
+    2IvHh0=\"}\n\
+    {\"type\":\"conflict\",\"catalogue\":\"a\",\"set\":1,\"position\":10,\"records\":[{\"type\":\"recor\
+    d\",\"syntax\":\"1.2.840.10003.5.10\",\"title\":\"Dvo\u{159}\u{e1}k na\u{1ecb}\u{308}ve\",\"author\
+    \":\"A. D\u{f6}blin.\",\"octets\":\"MDAwNzRuYW0gIDIyMDAwMzcgYSA0NTAwMjQ1MDAzNjAwMDAwHjEwH2FEdm/pcuJ\
+    hayBuYejyaXZlIC8fY0EuIETob2JsaW4uHh0=\"},{\"type\":\"record\",\"syntax\":\"1.2.840.10003.5.1\",\"ye\
+    ar\":\"1942\",\"title\":\"L\u{2019}\u{e9}tranger : roman\",\"author\":\"Camus\",\"isbn\":\"2-07-036\
+    024-8\",\"octets\":\"MDAyMTBuYW0gIDIyMDAwNzMgYSA0NTAwMDEwMDAyMzAwMDAwMTAwMDA0MTAwMDIzMjAwMDA1NDAwMD\
+    Y0NzAwMDAxODAwMTE4HiAgH2EyLTA3LTAzNjAyNC04H2Jici4eICAfYTIwMDQwNzIyZDE5NDIgICAgbSAgeTBmcmV5NTAgICAgI\
+    CBiYR4xIB9hTOKAmcOpdHJhbmdlch9lcm9tYW4fZkFsYmVydCBDYW11cx9ncHLDqWZhY2UgZGUgWB4gfB9hQ2FtdXMfYkFsYmVy\
+    dB4d\"}]}\n\
+    {\"type\":\"record\",\"catalogue\":\"a\",\"set\":1,\"position\":11,\"syntax\":\"1.2.840.10003.5.10\
+    \",\"title\":\"Dvo\u{159}\u{e1}k na\u{1ecb}\u{308}ve\",\"author\":\"A. D\u{f6}blin.\",\"encoding\":\
+    \"MF6hXKFaKFgGByqGSM4TBQoCAQOBSjAwMDc0bmFtICAyMjAwMDM3IGEgNDUwMDI0NTAwMzYwMDAwMB4xMB9hRHZv6XLiYWsgb\
+    mHo8ml2ZSAvH2NBLiBE6G9ibGluLh4d\"}\n\
+    ",
+);
+
 // Names with each control, with what is not UTF-8, and a target without a name; such a database and such additional
 // information.
 const TEXTS: Vector = (
@@ -137,23 +242,34 @@ const DIAGNOSTICS: Vector = (
 const NOTHING: Vector = (b"\xa4\x06\x80\x01a\x80\x01b", "");
 
 // The lines of what a file says, behind a text.
-fn lines_of(alloc: Global, loaded: &Loaded, before: &str) -> Result<Vec<u8>, Unread> {
+fn lines_of(
+    alloc: Global,
+    loaded: &Loaded,
+    stops: &[Option<Stop>],
+    before: &str,
+) -> Result<Vec<u8>, Unread> {
     let Ok(mut out) = before.as_bytes().to_vec(alloc) else {
         return Err(Unread);
     };
     let Ok((knowledge, names)) = loaded else {
         return Err(Unread);
     };
-    match print_json(alloc, knowledge, names, &mut out) {
+    match print_json(alloc, knowledge, names, stops, &mut out) {
         Ok(()) => Ok(out),
         Err(_) => Err(Unread),
     }
 }
 
 // Whether these lines of a file are appended to a text.
-fn has_lines(alloc: Global, file: &[u8], before: &str, due: &str) -> bool {
+pub(crate) fn has_lines(
+    alloc: Global,
+    file: &[u8],
+    stops: &[Option<Stop>],
+    before: &str,
+    due: &str,
+) -> bool {
     match (load_octets(alloc, file), format!(in alloc; "{before}{due}")) {
-        (Ok(loaded), Ok(due)) => spells(lines_of(alloc, &loaded, before), due.as_bytes()),
+        (Ok(loaded), Ok(due)) => spells(lines_of(alloc, &loaded, stops, before), due.as_bytes()),
         _ => false,
     }
 }
@@ -161,8 +277,16 @@ fn has_lines(alloc: Global, file: &[u8], before: &str, due: &str) -> bool {
 // Each file gives its lines.
 #[test]
 fn whole_texts(rt: HostRuntime) -> Result<(), Fail> {
-    for (file, due) in [EXAMPLE, RECORDS, CONFLICTS, TEXTS, DIAGNOSTICS, NOTHING] {
-        assert!(rt; has_lines(rt.alloc(), file, "", due), "{due}");
+    for (file, due) in [
+        EXAMPLE,
+        RECORDS,
+        CONFLICTS,
+        FIELDS,
+        TEXTS,
+        DIAGNOSTICS,
+        NOTHING,
+    ] {
+        assert!(rt; has_lines(rt.alloc(), file, &[], "", due), "{due}");
     }
     Ok(())
 }
@@ -171,6 +295,6 @@ fn whole_texts(rt: HostRuntime) -> Result<(), Fail> {
 #[test]
 fn lines_are_appended(rt: HostRuntime) -> Result<(), Fail> {
     let (file, due) = EXAMPLE;
-    assert!(rt; has_lines(rt.alloc(), file, "before", due));
+    assert!(rt; has_lines(rt.alloc(), file, &[], "before", due));
     Ok(())
 }

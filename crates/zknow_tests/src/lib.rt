@@ -20,4 +20,6 @@ pub mod shown;
 #[cfg(test)]
 mod shuffled;
 #[cfg(test)]
+mod stops;
+#[cfg(test)]
 mod titles;

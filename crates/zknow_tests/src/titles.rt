@@ -5,6 +5,7 @@ use std::process::Abort;
 use std::test::Fail;
 use zber_tests::rows::spells;
 use zber_tests::unread::Unread;
+use zknow_stops::Stop;
 use zknow_titles::print_titles;
 
 // A saved file, and the view that is wanted.
@@ -124,27 +125,71 @@ const DIAGNOSTICS: Vector = (
     d: association refused: 1014 Init/AC: Authentication System error\n",
 );
 
+// OPAC records with their copies: of one record, of two that differ, without a bibliographic record; and an element
+// that is none.
+const COPIES: Vector = (
+    b"\xa4\x06\x80\x04city\xa0\x09\x80\x01\x00\x81\x01\x01\x82\x01\x05\xa2\x81\xfb\x80\x01\x00\x81\x01\x01\x82\x01\
+    \x010\x81\xef\xa1\x81\xec\xa1\x81\xe9(\x81\xe6\x06\x07*\x86H\xce\x13\x05f\xa0\x81\xda0\x81\xd7\xa1h\x06\x07*\
+    \x86H\xce\x13\x05\x0a\x81]00093nam  22000491a 4500245003400000260000900034\x1e10\x1faDune messiah /\x1fcFran\
+    k Herbert\x1e  \x1fc1965\x1e\x1d\xa2k\xa2D\x89\x0cMain library\x8a\x09Reference\x8b\x08QA76 .H3\x8d\x012\x91\
+    \x03v.3\xb3\x170\x15\x81\x01\x00\x82\x0a2026-12-01\x86\x01\xff\x87\x01\xff\xa2#\x89\x0aBranch\x1b[2J\x8b\x08\
+    QA76 .H3\xb3\x0b0\x09\x81\x01\xff\x86\x01\xff\x87\x01\x00\xa2\x81\x88\x80\x01\x00\x81\x01\x01\x82\x01\x020}\
+    \xa1{\xa1y(w\x06\x07*\x86H\xce\x13\x05f\xa0l0j\xa1h\x06\x07*\x86H\xce\x13\x05\x0a\x81]00093nam  22000491a 45\
+    00245003400000260000900034\x1e10\x1faDune messiah /\x1fcFrank Herbert\x1e  \x1fc1965\x1e\x1d\xa2\x81\xa7\x80\
+    \x01\x00\x81\x01\x01\x82\x01\x020\x81\x9b\xa1\x81\x98\xa1\x81\x95(\x81\x92\x06\x07*\x86H\xce\x13\x05f\xa0\
+    \x81\x860\x81\x83\xa1h\x06\x07*\x86H\xce\x13\x05\x0a\x81]00093nam  22000491a 4500245003400000260000900034\
+    \x1e10\x1faDune messiah /\x1fcFrank Herbert\x1e  \x1fc1965\x1e\x1d\xa2\x17\xa2\x15\x89\x06Branch\xb3\x0b0\
+    \x09\x81\x01\x00\x86\x01\xff\x87\x01\x00\xa2\"\x80\x01\x00\x81\x01\x01\x82\x01\x030\x17\xa1\x15\xa1\x13(\x11\
+    \x06\x07*\x86H\xce\x13\x05f\xa0\x060\x04\xa2\x02\xa2\x00\xa2 \x80\x01\x00\x81\x01\x01\x82\x01\x040\x15\xa1\
+    \x13\xa1\x11(\x0f\x06\x07*\x86H\xce\x13\x05f\xa0\x040\x02\xa3\x00",
+    "\
+    city: 5 found, 4 shown\n\
+    \n\
+    \x20 1  city  1965  Dune messiah / Frank Herbert\n\
+    \x20                Main library, Reference: QA76 .H3, copy 2, v.3; not available, until 2026-12-01, on hold\n\
+    \x20                Branch\u{fffd}[2J: QA76 .H3; available\n\
+    \x20 2  city        2 different records\n\
+    \x20          1965  Dune messiah / Frank Herbert\n\
+    \x20          1965  Dune messiah / Frank Herbert\n\
+    \x20                Branch; not available\n\
+    \x20 3  city        copies of a record that is not there\n\
+    \x20                copy without details\n\
+    \x20 4  city        record of syntax 1.2.840.10003.5.102, 4 octets\n\
+    ",
+);
+
 // Names, and nothing that is known.
 const NOTHING: Vector = (b"\xa4\x06\x80\x01a\x80\x01b", "");
 
 // The view of what a file says, behind a text.
-fn view_of(alloc: Global, loaded: &Loaded, before: &str) -> Result<Vec<u8>, Unread> {
+fn view_of(
+    alloc: Global,
+    loaded: &Loaded,
+    stops: &[Option<Stop>],
+    before: &str,
+) -> Result<Vec<u8>, Unread> {
     let Ok(mut out) = before.as_bytes().to_vec(alloc) else {
         return Err(Unread);
     };
     let Ok((knowledge, names)) = loaded else {
         return Err(Unread);
     };
-    match print_titles(alloc, knowledge, names, &mut out) {
+    match print_titles(alloc, knowledge, names, stops, &mut out) {
         Ok(()) => Ok(out),
         Err(_) => Err(Unread),
     }
 }
 
 // Whether this view of a file is appended to a text.
-fn has_view(alloc: Global, file: &[u8], before: &str, due: &str) -> bool {
+pub(crate) fn has_view(
+    alloc: Global,
+    file: &[u8],
+    stops: &[Option<Stop>],
+    before: &str,
+    due: &str,
+) -> bool {
     match (load_octets(alloc, file), format!(in alloc; "{before}{due}")) {
-        (Ok(loaded), Ok(due)) => spells(view_of(alloc, &loaded, before), due.as_bytes()),
+        (Ok(loaded), Ok(due)) => spells(view_of(alloc, &loaded, stops, before), due.as_bytes()),
         _ => false,
     }
 }
@@ -152,8 +197,8 @@ fn has_view(alloc: Global, file: &[u8], before: &str, due: &str) -> bool {
 // Each file gives its view.
 #[test]
 fn views(rt: HostRuntime) -> Result<(), Fail> {
-    for (file, due) in [EXAMPLE, SYNTAXES, NAMES, DIAGNOSTICS] {
-        assert!(rt; has_view(rt.alloc(), file, "", due), "{due}");
+    for (file, due) in [EXAMPLE, SYNTAXES, NAMES, DIAGNOSTICS, COPIES] {
+        assert!(rt; has_view(rt.alloc(), file, &[], "", due), "{due}");
     }
     Ok(())
 }
@@ -162,6 +207,6 @@ fn views(rt: HostRuntime) -> Result<(), Fail> {
 #[test]
 fn nothing_known(rt: HostRuntime) -> Result<(), Fail> {
     let (file, due) = NOTHING;
-    assert!(rt; has_view(rt.alloc(), file, "before", due));
+    assert!(rt; has_view(rt.alloc(), file, &[], "before", due));
     Ok(())
 }

@@ -1,4 +1,5 @@
 pub mod ConditionTheory
+pub mod HeadTheory
 pub mod NameTheory
 pub mod SafeTexts
 pub mod SafeTheory

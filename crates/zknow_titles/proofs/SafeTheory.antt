@@ -1,5 +1,5 @@
--- Whatever the records, the names and the diagnostics are, the view is safe to print on a terminal.
-use Rattle.std.proofs.Common.{ℕ, zero, suc, ◌-◌, Bool, true, false, cond, not, Option, Some, None, List, [], ◌∷◌, ◌++◌, length, leb, eqb, refl, sym, subst, ℤ, pos}
+-- Whatever the records, the names, the diagnostics and the stops are, the view is safe to print on a terminal.
+use Rattle.std.proofs.Common.{ℕ, zero, suc, ◌+◌, ◌-◌, Bool, true, false, cond, not, Option, Some, None, List, [], ◌∷◌, ◌++◌, length, take, drop, leb, eqb, refl, sym, subst, ℤ, pos}
 use Rattle.std.specs.Prelude.{◌&&◌, ◌||◌, ◌==◌, All, codes, map, slice_get, unwrap_or}
 use Rattle.std.specs.Fmt.{signed_decimal}
 use Rattle.std.specs.List.{flat_map}
@@ -17,6 +17,7 @@ use Rattle.zapdu.specs.declared.productions.diagnostic.DiagRec.{DiagRec}
 use Rattle.zapdu.specs.declared.productions.diagnostic.DiagRec.TheVariants.{Default, Ext}
 use Rattle.zapdu.specs.declared.productions.external.Content.{Content}
 use Rattle.zapdu.specs.declared.productions.external.Content.TheVariants.{Single, Aligned, Arbitrary}
+use Rattle.zapdu.specs.declared.productions.external.External.{External}
 use Rattle.zapdu.specs.declared.productions.record.Record.{Record}
 use Rattle.zapdu.specs.declared.productions.record.RecordBody.{RecordBody}
 use Rattle.zapdu.specs.declared.productions.record.RecordBody.TheVariants.{Retrieval, Surrogate, Fragment}
@@ -29,22 +30,29 @@ use Rattle.zmarc.specs.Records.{is_record}
 use Rattle.zmarc.specs.Shown.{IsSafe, IsSafeText}
 use Rattle.zmarc.specs.Years.{year}
 use Rattle.zmarc.proofs.SafeTheory.{text_is_safe, brief_is_safe}
+use Rattle.zopac.specs.declared.opac.OpacRecord.{OpacRecord}
+use Rattle.zopac.proofs.SafeTheory.{lines_are_safe}
 use Rattle.zknow.specs.declared.fact.Fact.{Fact}
 use Rattle.zknow.specs.declared.tables.keys.RowKey.{RowKey}
 use Rattle.zknow.specs.declared.tables.keys.SetKey.{SetKey}
 use Rattle.zknow.specs.Known.{counts_at, records_at, is_failed_at, diags_at}
+use Rattle.zknow_stops.specs.declared.detail.Detail.{Detail}
+use Rattle.zknow_stops.specs.declared.stop.Stop.{Stop}
+use Rattle.zknow_stops.specs.Details.{detail_words, is_unreached}
+use Rattle.zknow_stops.proofs.Words.{words_printable}
 use Rattle.zknow_titles.specs.declared.rows.Widths.{Widths}
 use Rattle.zknow_titles.specs.Blocks.{joined_behind, joined_by, count_part, shown_count, behind_colon, heading, failure_part, search_text, request_text, block_parts, block_line}
 use Rattle.zknow_titles.specs.Columns.{char_columns, fitting, widest_cut, clipped, width, padded}
 use Rattle.zknow_titles.specs.Conditions.{condition_words}
 use Rattle.zknow_titles.specs.Diagnostics.{bib1, behind_number, condition_text, bracketed, diag_words}
-use Rattle.zknow_titles.specs.Entries.{EntryText, plain, syntax_text, counted_octets, other_entry, marc_entry, octets_entry, element_entry, content_entry, body_entry, entry, sutrs, xml, unimarc, is_marc}
+use Rattle.zknow_titles.specs.Entries.{EntryText, plain, syntax_text, counted_octets, other_entry, marc_entry, octets_entry, element_entry, content_entry, body_entry, bibliographic_entry, entry_with, opac_of, copies_of, entry, sutrs, xml, unimarc, is_marc}
+use Rattle.zknow_titles.specs.Heads.{stop_line, then_words, if_last, lines_then, stopped_lines, target_lines, front_count, head_lines}
 use Rattle.zknow_titles.specs.Laws.{IsSafeView}
 use Rattle.zknow_titles.specs.Names.{shown_names, name_or_number, label}
-use Rattle.zknow_titles.specs.Rows.{row_name, position_width, row_head, row_entry, further_line, several, record_lines, row_lines, widths}
+use Rattle.zknow_titles.specs.Rows.{row_name, position_width, row_head, row_entry, further_entry, copy_row, copy_rows, further_lines, several, record_lines, row_lines, widths}
 use Rattle.zknow_titles.specs.Sutrs.{behind_gap, squeezed, shortened, sutrs_line}
 use Rattle.zknow_titles.specs.Titles.{between, title_lines, titles, sets_of, rows_of}
-use Rattle.zknow_titles.proofs.SafeTexts.{characters_safe, safe_characters, space_safe, nothing_safe, both_safe, either_safe, literal_safe, spaces_safe, ellipsis_safe, decimal_safe, signed_safe, dotted_safe}
+use Rattle.zknow_titles.proofs.SafeTexts.{characters_safe, safe_characters, space_safe, nothing_safe, both_safe, either_safe, printable_safe, literal_safe, spaces_safe, ellipsis_safe, decimal_safe, signed_safe, dotted_safe}
 
 -- ---- diagnostics
 
@@ -77,11 +85,15 @@ some_name_safe : (target : ℕ) (name : Option (List ℕ))
 some_name_safe target None = both_safe (literal_safe (0x23 ∷ []) refl) (decimal_safe target)
 some_name_safe target (Some name) = text_is_safe Utf8 name
 
+name_safe : (names : List (List ℕ)) (target : ℕ)
+    → IsSafeText (name_or_number target (slice_get (shown_names names) target))
+name_safe names target =
+    subst (λ o. IsSafeText (name_or_number target o)) (sym (slice_get-map (text Utf8) names target))
+    (some_name_safe target (slice_get names target))
+
 pub label_safe : (names : List (List ℕ)) (target set : ℕ) → IsSafeText (label (shown_names names) target set)
 label_safe names target set =
-    let same = slice_get-map (text Utf8) names target in
-    both_safe (subst (λ o. IsSafeText (name_or_number target o)) (sym same)
-    (some_name_safe target (slice_get names target)))
+    both_safe (name_safe names target)
     (either_safe (leb set 1) nothing_safe (both_safe (literal_safe (codes " set ") refl) (decimal_safe set)))
 
 -- ---- columns
@@ -193,8 +205,16 @@ body_safe (Retrieval v) = content_safe v.direct v.content
 body_safe (Surrogate d) = plain_safe (both_safe (literal_safe (codes "not shown: ") refl) (diag_safe d))
 body_safe (Fragment e) = plain_safe (literal_safe (codes "a part of a record") refl)
 
+bibliographic_safe : (found : Option External) → IsSafeEntry (bibliographic_entry found)
+bibliographic_safe None = plain_safe (literal_safe (codes "copies of a record that is not there") refl)
+bibliographic_safe (Some v) = content_safe v.direct v.content
+
+with_safe : (r : Record) (o : Option OpacRecord) → IsSafeEntry (entry_with r o)
+with_safe r None = body_safe r.body
+with_safe r (Some o) = bibliographic_safe o.bibliographic
+
 entry_safe : (r : Record) → IsSafeEntry (entry r)
-entry_safe r = body_safe r.body
+entry_safe r = with_safe r (opac_of r)
 
 -- ---- lists of texts
 
@@ -283,27 +303,101 @@ block_safe names facts b =
     both_safe (both_safe (label_safe names b.target b.set) (literal_safe (codes ": ") refl))
     (joined_safe (codes "; ") (block_parts facts b) (literal_safe (codes "; ") refl) (parts_safe facts b))
 
+-- ---- why connections stopped
+
+words_safe : (d : Detail) → IsSafeText (detail_words d)
+words_safe d = printable_safe (detail_words d) (words_printable d)
+
+stop_safe : (names : List (List ℕ)) (target : ℕ) (d : Detail) → IsSafeText (stop_line (shown_names names) target d)
+stop_safe names target d =
+    both_safe (both_safe (name_safe names target) (literal_safe (codes ": ") refl))
+    (either_safe (is_unreached d)
+    (both_safe (both_safe (literal_safe (codes "not reached (") refl) (words_safe d)) (literal_safe (codes ")") refl))
+    (words_safe d))
+
+then_safe : (d : Detail) → IsSafeText (then_words d)
+then_safe d = both_safe (literal_safe (codes "; then ") refl) (words_safe d)
+
+last_safe : (words : List ℕ) (sets : List SetKey) → IsSafeText words → IsSafeText (if_last words sets)
+last_safe words [] s = s
+last_safe words (b ∷ bs) s = nothing_safe
+
+blocks_safe : (names : List (List ℕ)) (facts : List Fact) (sets : List SetKey)
+    → All IsSafeText (map (block_line (shown_names names) facts) sets)
+blocks_safe names facts sets = all_map (block_line (shown_names names) facts) (block_safe names facts) sets
+
+lines_then_safe : (names : List (List ℕ)) (facts : List Fact) (words : List ℕ) (sets : List SetKey) → IsSafeText words
+    → All IsSafeText (lines_then (shown_names names) facts words sets)
+lines_then_safe names facts words [] s = none_safe
+lines_then_safe names facts words (b ∷ bs) s =
+    All-cons IsSafeText (block_line (shown_names names) facts b ++ if_last words bs)
+    (lines_then (shown_names names) facts words bs)
+    (both_safe (block_safe names facts b) (last_safe words bs s)) (lines_then_safe names facts words bs s)
+
+stopped_safe : (names : List (List ℕ)) (facts : List Fact) (target : ℕ) (d : Detail) (sets : List SetKey)
+    → All IsSafeText (stopped_lines (shown_names names) facts target d sets)
+stopped_safe names facts target d sets =
+    let shown = shown_names names in
+    all_either (is_unreached d || length sets == 0) _ _
+    (All-append IsSafeText (map (block_line shown facts) sets) (stop_line shown target d ∷ [])
+    (blocks_safe names facts sets) (one_safe (stop_safe names target d)))
+    (lines_then_safe names facts (then_words d) sets (then_safe d))
+
+target_safe : (names : List (List ℕ)) (facts : List Fact) (target : ℕ) (s : Option Stop) (sets : List SetKey)
+    → All IsSafeText (target_lines (shown_names names) facts target s sets)
+target_safe names facts target None sets = blocks_safe names facts sets
+target_safe names facts target (Some s) sets = stopped_safe names facts target s.detail sets
+
+targets_safe : (names : List (List ℕ)) (facts : List Fact) (target : ℕ) (stops : List (Option Stop))
+    (sets : List SetKey) → All IsSafeText (head_lines (shown_names names) facts target stops sets)
+targets_safe names facts target [] sets = blocks_safe names facts sets
+targets_safe names facts target (s ∷ stops) sets =
+    let count = front_count target sets in
+    All-append IsSafeText (target_lines (shown_names names) facts target s (take count sets))
+    (head_lines (shown_names names) facts (target + 1) stops (drop count sets))
+    (target_safe names facts target s (take count sets))
+    (targets_safe names facts (target + 1) stops (drop count sets))
+
 -- ---- the rows
 
-row_entry_safe : (r : Record) → IsSafeText (row_entry (entry r))
-row_entry_safe r =
-    let e = entry_safe r in both_safe (both_safe (padded_safe 4 (entry r).year e.year)
-    (literal_safe (codes "  ") refl)) e.line
+text_safe : (e : EntryText) → IsSafeEntry e → IsSafeText (row_entry e)
+text_safe e s = both_safe (both_safe (padded_safe 4 e.year s.year) (literal_safe (codes "  ") refl)) s.line
 
-further_safe : (w : Widths) (r : Record) → IsSafeText (further_line w r)
-further_safe w r = both_safe (both_safe (both_safe (spaces_safe 6) (spaces_safe w.position)) (spaces_safe w.name))
-    (row_entry_safe r)
+row_entry_safe : (r : Record) → IsSafeText (row_entry (entry r))
+row_entry_safe r = text_safe (entry r) (entry_safe r)
+
+further_safe : (w : Widths) (e : EntryText) → IsSafeEntry e → IsSafeText (further_entry w e)
+further_safe w e s = both_safe (both_safe (both_safe (spaces_safe 6) (spaces_safe w.position)) (spaces_safe w.name))
+    (text_safe e s)
+
+all_copies : (w : Widths) (lines : List (List ℕ)) → All IsSafeText lines → All IsSafeText (map (copy_row w) lines)
+all_copies w [] h = none_safe
+all_copies w (l ∷ lines) h =
+    All-cons IsSafeText (copy_row w l) (map (copy_row w) lines)
+    (further_safe w (plain l) (plain_safe (All-head IsSafeText l lines h)))
+    (all_copies w lines (All-tail IsSafeText l lines h))
+
+copies_safe : (w : Widths) (o : Option OpacRecord) → All IsSafeText (copy_rows w o)
+copies_safe w None = none_safe
+copies_safe w (Some o) = all_copies w (copies_of (Some o)) (lines_are_safe o)
+
+further_lines_safe : (w : Widths) (r : Record) → All IsSafeText (further_lines w r)
+further_lines_safe w r =
+    All-cons IsSafeText (further_entry w (entry r)) (copy_rows w (opac_of r)) (further_safe w (entry r) (entry_safe r))
+    (copies_safe w (opac_of r))
 
 lines_safe : (w : Widths) (head : List ℕ) (records : List Record) → IsSafeText head
     → All IsSafeText (record_lines w head records)
 lines_safe w head [] s = none_safe
-lines_safe w head (r ∷ []) s = one_safe (both_safe s (row_entry_safe r))
+lines_safe w head (r ∷ []) s =
+    All-cons IsSafeText (head ++ row_entry (entry r)) (copy_rows w (opac_of r)) (both_safe s (row_entry_safe r))
+    (copies_safe w (opac_of r))
 lines_safe w head (r ∷ q ∷ rest) s =
     let count = length (r ∷ q ∷ rest) in
-    All-cons IsSafeText (several head count) (map (further_line w) (r ∷ q ∷ rest))
+    All-cons IsSafeText (several head count) (flat_map (further_lines w) (r ∷ q ∷ rest))
     (both_safe (both_safe (both_safe s (literal_safe (codes "      ") refl)) (decimal_safe count))
     (literal_safe (codes " different records") refl))
-    (all_map (further_line w) (further_safe w) (r ∷ q ∷ rest))
+    (all_flat (further_lines w) (further_lines_safe w) (r ∷ q ∷ rest))
 
 head_safe : (w : Widths) (names : List (List ℕ)) (k : RowKey) → IsSafeText (row_head w (shown_names names) k)
 head_safe w names k =
@@ -320,22 +414,23 @@ row_safe w names facts k =
 
 -- ---- the view
 
-between_safe : (sets : List SetKey) (rows : List RowKey) → All IsSafeText (between sets rows)
-between_safe sets rows = all_either (length sets == 0 || length rows == 0) _ _ none_safe (one_safe nothing_safe)
+between_safe : (head : List (List ℕ)) (rows : List RowKey) → All IsSafeText (between head rows)
+between_safe head rows = all_either (length head == 0 || length rows == 0) _ _ none_safe (one_safe nothing_safe)
 
-title_lines_safe : (names : List (List ℕ)) (facts : List Fact) (sets : List SetKey) (rows : List RowKey)
-    → All IsSafeText (title_lines (shown_names names) facts sets rows)
-title_lines_safe names facts sets rows =
+title_lines_safe : (names : List (List ℕ)) (stops : List (Option Stop)) (facts : List Fact) (sets : List SetKey)
+    (rows : List RowKey) → All IsSafeText (title_lines (shown_names names) stops facts sets rows)
+title_lines_safe names stops facts sets rows =
     let w = widths (shown_names names) rows in
+    let head = head_lines (shown_names names) facts 0 stops sets in
     All-append IsSafeText _ (flat_map (row_lines w (shown_names names) facts) rows)
-    (All-append IsSafeText (map (block_line (shown_names names) facts) sets) (between sets rows)
-    (all_map (block_line (shown_names names) facts) (block_safe names facts) sets) (between_safe sets rows))
+    (All-append IsSafeText head (between head rows) (targets_safe names facts 0 stops sets) (between_safe head rows))
     (all_flat (row_lines w (shown_names names) facts) (row_safe w names facts) rows)
 
-pub view_is_safe : (names : List (List ℕ)) (facts : List Fact) → IsSafeView (titles names facts)
+pub view_is_safe : (names : List (List ℕ)) (stops : List (Option Stop)) (facts : List Fact)
+    → IsSafeView (titles names stops facts)
 unfolding titles
-view_is_safe names facts = record {
-  lines = title_lines (shown_names names) facts (sets_of facts) (rows_of facts);
+view_is_safe names stops facts = record {
+  lines = title_lines (shown_names names) stops facts (sets_of facts) (rows_of facts);
   made = refl;
-  safe = title_lines_safe names facts (sets_of facts) (rows_of facts);
+  safe = title_lines_safe names stops facts (sets_of facts) (rows_of facts);
 }

@@ -10,6 +10,7 @@ use Rattle.zber.specs.Segments.{is_string, string_octets}
 use Rattle.zapdu.specs.declared.productions.diagnostic.DiagRec.{DiagRec}
 use Rattle.zapdu.specs.declared.productions.external.Content.{Content}
 use Rattle.zapdu.specs.declared.productions.external.Content.TheVariants.{Single, Aligned, Arbitrary}
+use Rattle.zapdu.specs.declared.productions.external.External.{External}
 use Rattle.zapdu.specs.declared.productions.record.RecordBody.{RecordBody}
 use Rattle.zapdu.specs.declared.productions.record.RecordBody.TheVariants.{Retrieval, Surrogate, Fragment}
 use Rattle.zapdu.specs.declared.productions.record.Record.{Record}
@@ -20,6 +21,9 @@ use Rattle.zmarc.specs.Charsets.{text}
 use Rattle.zmarc.specs.Briefs.{brief}
 use Rattle.zmarc.specs.Records.{is_record}
 use Rattle.zmarc.specs.Years.{year}
+use Rattle.zopac.specs.declared.opac.OpacRecord.{OpacRecord}
+use Rattle.zopac.specs.Copies.{copy_lines}
+use Rattle.zopac.specs.Opacs.{opac_meaning}
 use Rattle.zknow_titles.specs.Diagnostics.{diag_words}
 use Rattle.zknow_titles.specs.Sutrs.{sutrs_line}
 
@@ -49,6 +53,10 @@ sutrs = 1 ∷ 2 ∷ 840 ∷ 10003 ∷ 5 ∷ 101 ∷ []
 -- the syntax XML: 1.2.840.10003.5.109.10
 abbrev pub xml : List ℕ
 xml = 1 ∷ 2 ∷ 840 ∷ 10003 ∷ 5 ∷ 109 ∷ 10 ∷ []
+
+-- the syntax OPAC, a bibliographic record with its copies: 1.2.840.10003.5.102
+abbrev pub opac : List ℕ
+opac = 1 ∷ 2 ∷ 840 ∷ 10003 ∷ 5 ∷ 102 ∷ []
 
 -- the formats of MARC: 1.2.840.10003.5.0 to 1.2.840.10003.5.99
 abbrev pub is_marc : List ℕ → Bool
@@ -123,9 +131,42 @@ body_entry (Retrieval v) = content_entry v.direct v.content
 body_entry (Surrogate d) = diag_entry d
 body_entry (Fragment e) = plain (codes "a part of a record")
 
+-- ---- records with copies
+
+-- the record with its copies that a record of the syntax OPAC is, if it is one
+abbrev pub opac_in_content : List ℕ → Content → Option OpacRecord
+opac_in_content syntax (Single e) = if bytes_eq syntax opac then opac_meaning e else None
+opac_in_content syntax (Aligned octets) = None
+opac_in_content syntax (Arbitrary bits) = None
+
+-- the same of what the target sent
+abbrev pub opac_in : RecordBody → Option OpacRecord
+opac_in (Retrieval v) = opac_in_content (unwrap_or v.direct []) v.content
+opac_in (Surrogate d) = None
+opac_in (Fragment e) = None
+
+-- the record with its copies that a record is, if it is one
+abbrev pub opac_of : Record → Option OpacRecord
+opac_of r = opac_in r.body
+
+-- a bibliographic record by its content
+abbrev pub bibliographic_entry : Option External → EntryText
+bibliographic_entry None = plain (codes "copies of a record that is not there")
+bibliographic_entry (Some v) = content_entry v.direct v.content
+
+-- a record, or what stands in its place: of a record with its copies the bibliographic record
+abbrev pub entry_with : Record → Option OpacRecord → EntryText
+entry_with r None = body_entry r.body
+entry_with r (Some o) = bibliographic_entry o.bibliographic
+
 -- a record, or what stands in its place
 abbrev pub entry : Record → EntryText
-entry r = body_entry r.body
+entry r = entry_with r (opac_of r)
+
+-- the lines of a record's copies
+abbrev pub copies_of : Option OpacRecord → List (List ℕ)
+copies_of None = []
+copies_of (Some o) = copy_lines o
 
 -- a record, and not the reason why there is none
 abbrev pub is_body_shown : RecordBody → Bool

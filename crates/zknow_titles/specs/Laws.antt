@@ -1,8 +1,9 @@
 -- The view is safe to print on a terminal, and its names take at most 24 columns there.
-use Rattle.std.specs.Prelude.{◌≡◌, ◌≤◌, ℕ, List, All}
+use Rattle.std.specs.Prelude.{◌≡◌, ◌≤◌, ℕ, Option, IsNone, List, [], All}
 use Rattle.zmarc.specs.Shown.{IsSafeText}
 use Rattle.zknow.specs.declared.fact.Fact.{Fact}
 use Rattle.zknow.specs.declared.tables.keys.RowKey.{RowKey}
+use Rattle.zknow_stops.specs.declared.stop.Stop.{Stop}
 use Rattle.zknow_titles.specs.declared.rows.Widths.{Widths}
 use Rattle.zknow_titles.specs.Columns.{width}
 use Rattle.zknow_titles.specs.Lines.{ended}
@@ -16,9 +17,22 @@ pub record IsSafeView (octets : List ℕ) : Type 0 where
   pub made : ended lines ≡ octets
   pub safe : All IsSafeText lines
 
--- whatever the records, the names and the diagnostics are
+-- whatever the records, the names, the diagnostics and the stops are
 abbrev pub SafeLaw : Type 0
-SafeLaw = (names : List (List ℕ)) (facts : List Fact) → IsSafeView (titles names facts)
+SafeLaw =
+    (names : List (List ℕ)) (stops : List (Option Stop)) (facts : List Fact) → IsSafeView (titles names stops facts)
+
+-- ---- stops
+
+-- no target stopped
+abbrev pub AreQuiet : List (Option Stop) → Type 0
+AreQuiet stops = All IsNone stops
+
+-- then the view is that of no stops
+abbrev pub QuietLaw : Type 0
+QuietLaw =
+    (names : List (List ℕ)) (stops : List (Option Stop)) (facts : List Fact) → AreQuiet stops
+    → titles names stops facts ≡ titles names [] facts
 
 -- ---- columns of a terminal
 

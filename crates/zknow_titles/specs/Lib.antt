@@ -4,6 +4,7 @@ pub mod ConditionTable
 pub mod Conditions
 pub mod Diagnostics
 pub mod Entries
+pub mod Heads
 pub mod Laws
 pub mod Lines
 pub mod Names

@@ -1,13 +1,15 @@
 -- The rows of the view: position, name, year, text.
-use Rattle.std.specs.Prelude.{ℕ, ◌-◌, List, [], ◌∷◌, ◌++◌, codes, length, map, fold, max}
+use Rattle.std.specs.Prelude.{ℕ, ◌-◌, Option, List, [], ◌∷◌, ◌++◌, codes, length, map, fold, max}
 use Rattle.std.specs.Fmt.{decimal, signed_decimal}
+use Rattle.std.specs.List.{flat_map}
 use Rattle.zapdu.specs.declared.productions.record.Record.{Record}
 use Rattle.zknow.specs.declared.fact.Fact.{Fact}
 use Rattle.zknow.specs.declared.tables.keys.RowKey.{RowKey}
 use Rattle.zknow.specs.Known.{records_at}
+use Rattle.zopac.specs.declared.opac.OpacRecord.{OpacRecord}
 use Rattle.zknow_titles.specs.declared.rows.Widths.{Widths}
 use Rattle.zknow_titles.specs.Columns.{width, clipped, padded, spaces}
-use Rattle.zknow_titles.specs.Entries.{EntryText, entry}
+use Rattle.zknow_titles.specs.Entries.{EntryText, plain, entry, opac_of, copies_of}
 use Rattle.zknow_titles.specs.Names.{label}
 
 -- a name takes at most 24 columns
@@ -47,20 +49,32 @@ row_head w shown k =
 abbrev pub row_entry : EntryText → List ℕ
 row_entry e = padded 4 e.year ++ codes "  " ++ e.line
 
--- a further record of a row, below the first line
-abbrev pub further_line : Widths → Record → List ℕ
-further_line w r = spaces 6 ++ spaces w.position ++ spaces w.name ++ row_entry (entry r)
+-- year and text below the first line of a row
+abbrev pub further_entry : Widths → EntryText → List ℕ
+further_entry w e = spaces 6 ++ spaces w.position ++ spaces w.name ++ row_entry e
+
+-- a copy of a record, below its line
+abbrev pub copy_row : Widths → List ℕ → List ℕ
+copy_row w line = further_entry w (plain line)
+
+-- the copies of a record
+abbrev pub copy_rows : Widths → Option OpacRecord → List (List ℕ)
+copy_rows w o = map (copy_row w) (copies_of o)
+
+-- a further record of a row, below the first line, and its copies
+abbrev pub further_lines : Widths → Record → List (List ℕ)
+further_lines w r = further_entry w (entry r) ∷ copy_rows w (opac_of r)
 
 -- how many records a row has, where it has several
 abbrev pub several : List ℕ → ℕ → List ℕ
 several head count = head ++ codes "      " ++ decimal count ++ codes " different records"
 
--- a row: the record, or how many there are and then each
+-- a row: the record and its copies, or how many records there are and then each
 abbrev pub record_lines : Widths → List ℕ → List Record → List (List ℕ)
 record_lines w head [] = []
-record_lines w head (r ∷ []) = (head ++ row_entry (entry r)) ∷ []
+record_lines w head (r ∷ []) = (head ++ row_entry (entry r)) ∷ copy_rows w (opac_of r)
 record_lines w head (r ∷ q ∷ rest) =
-    several head (length (r ∷ q ∷ rest)) ∷ map (further_line w) (r ∷ q ∷ rest)
+    several head (length (r ∷ q ∷ rest)) ∷ flat_map (further_lines w) (r ∷ q ∷ rest)
 
 -- the lines of a row, from all records that are known at its position
 abbrev pub row_lines : Widths → List (List ℕ) → List Fact → RowKey → List (List ℕ)

@@ -1,12 +1,13 @@
--- The view for readers, as a function of the facts and the names.
-use Rattle.std.specs.Prelude.{ℕ, ◌==◌, ◌||◌, if◌then◌else◌, List, [], ◌∷◌, ◌++◌, length, map}
+-- The view for readers, as a function of the names, the stops and the facts.
+use Rattle.std.specs.Prelude.{ℕ, ◌==◌, ◌||◌, if◌then◌else◌, Option, List, [], ◌∷◌, ◌++◌, length}
 use Rattle.std.specs.List.{flat_map, filter_map}
 use Rattle.zknow.specs.declared.fact.Fact.{Fact}
 use Rattle.zknow.specs.declared.tables.keys.RowKey.{RowKey}
 use Rattle.zknow.specs.declared.tables.keys.SetKey.{SetKey}
 use Rattle.zknow.specs.List.Listing.{ascending, block_key_of, row_key_of}
 use Rattle.zknow.specs.Tables.Keys.{set_cmp, row_cmp}
-use Rattle.zknow_titles.specs.Blocks.{block_line}
+use Rattle.zknow_stops.specs.declared.stop.Stop.{Stop}
+use Rattle.zknow_titles.specs.Heads.{head_lines}
 use Rattle.zknow_titles.specs.Lines.{ended}
 use Rattle.zknow_titles.specs.Names.{shown_names}
 use Rattle.zknow_titles.specs.Rows.{widths, row_lines}
@@ -20,14 +21,15 @@ abbrev pub rows_of : List Fact → List RowKey
 rows_of facts = ascending row_cmp (filter_map row_key_of facts)
 
 -- an empty line between the head and the rows, where there are both
-abbrev pub between : List SetKey → List RowKey → List (List ℕ)
-between sets rows = if length sets == 0 || length rows == 0 then [] else [] ∷ []
+abbrev pub between : {X : Type 0} → List X → List RowKey → List (List ℕ)
+between head rows = if length head == 0 || length rows == 0 then [] else [] ∷ []
 
 -- the lines
-abbrev pub title_lines : List (List ℕ) → List Fact → List SetKey → List RowKey → List (List ℕ)
-title_lines shown facts sets rows =
-    map (block_line shown facts) sets ++ between sets rows ++ flat_map (row_lines (widths shown rows) shown facts) rows
+abbrev pub title_lines : List (List ℕ) → List (Option Stop) → List Fact → List SetKey → List RowKey → List (List ℕ)
+title_lines shown stops facts sets rows =
+    head_lines shown facts 0 stops sets ++ between (head_lines shown facts 0 stops sets) rows
+    ++ flat_map (row_lines (widths shown rows) shown facts) rows
 
 -- the text that is printed: the lines, each with its line feed
-unfoldable pub titles : List (List ℕ) → List Fact → List ℕ
-titles names facts = ended (title_lines (shown_names names) facts (sets_of facts) (rows_of facts))
+unfoldable pub titles : List (List ℕ) → List (Option Stop) → List Fact → List ℕ
+titles names stops facts = ended (title_lines (shown_names names) stops facts (sets_of facts) (rows_of facts))

@@ -292,7 +292,7 @@ fn find_parts(alloc: Global, knowledge: &Knowledge, key: &SetKey) -> Result<Vec<
 }
 
 /// Returns the line of a set.
-fn show_block(
+pub(crate) fn show_block(
     alloc: Global,
     shown: &[String],
     knowledge: &Knowledge,

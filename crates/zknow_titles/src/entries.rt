@@ -2,15 +2,17 @@
 ghost use Rattle.std.specs.Prelude.{◌≡◌, ◌++◌, [], true, false, unwrap_or, length, IfOk, OnOk, MatchOption, string_bytes};
 ghost use Rattle.zber.specs.Canonical.{canonical};
 ghost use Rattle.zber.specs.Segments.{is_string, string_octets};
-ghost use Rattle.zknow_titles.specs.Entries.{texts, plain, is_marc, syntax_text, counted_octets, year_text, titled, marc_entry, sutrs_entry, other_entry, octets_entry, element_entry, bits_entry, content_entry, diag_entry, entry, is_shown};
+ghost use Rattle.zknow_titles.specs.Entries.{texts, plain, is_marc, syntax_text, counted_octets, year_text, titled, marc_entry, sutrs_entry, other_entry, octets_entry, element_entry, bits_entry, content_entry, diag_entry, body_entry, bibliographic_entry, opac_in_content, opac_of, entry_with, is_shown};
+ghost use Rattle.zopac.specs.Opacs.{opac_meaning};
 
 use crate::diagnostics::put_diag;
 use crate::sutrs::put_sutrs;
 use bytes::Bytes;
 use std::alloc::{AllocError, Global};
-use zapdu::{Content, DiagRec, Record, RecordBody};
+use zapdu::{Content, DiagRec, External, Record, RecordBody};
 use zber::{Node, Oid, ValueError};
 use zmarc::{Charset, Format, find_year, is_record, put_brief, put_text};
+use zopac::{OpacRecord, PartError, read_opac};
 
 /// The syntax of UNIMARC.
 const UNIMARC: [u32; 6] = [1, 2, 840, 10003, 5, 1];
@@ -18,6 +20,8 @@ const UNIMARC: [u32; 6] = [1, 2, 840, 10003, 5, 1];
 const SUTRS: [u32; 6] = [1, 2, 840, 10003, 5, 101];
 /// The syntax of XML.
 const XML: [u32; 7] = [1, 2, 840, 10003, 5, 109, 10];
+/// The syntax of OPAC.
+const OPAC: [u32; 6] = [1, 2, 840, 10003, 5, 102];
 /// What the syntaxes of MARC begin with.
 const SYNTAXES: [u32; 5] = [1, 2, 840, 10003, 5];
 
@@ -31,7 +35,7 @@ pub(crate) struct Entry {
 }
 
 /// Returns a text without a year.
-fn plain(alloc: Global, line: String) -> Entry
+pub(crate) fn plain(alloc: Global, line: String) -> Entry
     ensures { texts (string_bytes result.year) (string_bytes result.line) ≡ plain (string_bytes line) }
 {
     Entry {
@@ -235,11 +239,54 @@ fn diag_entry(alloc: Global, diag: &DiagRec) -> Result<Entry, AllocError>
     Ok(plain(alloc, line))
 }
 
-/// Returns what is shown of a record, or of what stands in its place.
-pub(crate) fn entry_of(alloc: Global, record: &Record) -> Result<Entry, AllocError>
-    ensures { IfOk result (λ e. texts (string_bytes e.year) (string_bytes e.line) ≡ entry «record».now) }
+/// Returns the record with its copies that an element stands for, `None` if it stands for none.
+fn read_copies(alloc: Global, element: &Node) -> Result<Option<OpacRecord>, AllocError>
+    ensures { IfOk result (λ found. found ≡ opac_meaning element.now) }
+{
+    match read_opac(alloc, element) {
+        Ok(record) => Ok(Some(record)),
+        Err(PartError::Misfit) => Ok(None),
+        Err(PartError::Memory) => Err(AllocError),
+    }
+}
+
+/// Returns the record with its copies that a content in a syntax is, `None` if it is none.
+fn opac_in_content(
+    alloc: Global,
+    direct: &Option<Oid>,
+    content: &Content,
+) -> Result<Option<OpacRecord>, AllocError>
+    ensures { IfOk result (λ found. found ≡ opac_in_content (unwrap_or direct.now []) content.now) }
+{
+    match content {
+        Content::Single(element) => {
+            if arcs_of(direct) == OPAC.as_slice() {
+                read_copies(alloc, element)
+            } else {
+                Ok(None)
+            }
+        }
+        Content::Aligned(_) | Content::Arbitrary(_) => Ok(None),
+    }
+}
+
+/// Returns the record with its copies that a record is, `None` if it is none.
+pub(crate) fn opac_of(alloc: Global, record: &Record) -> Result<Option<OpacRecord>, AllocError>
+    ensures { IfOk result (λ found. found ≡ opac_of «record».now) }
 {
     match &record.body {
+        RecordBody::Retrieval(external) => {
+            opac_in_content(alloc, &external.direct, &external.content)
+        }
+        RecordBody::Surrogate(_) | RecordBody::Fragment(_) => Ok(None),
+    }
+}
+
+/// Returns what is shown of what the target sent.
+fn body_entry(alloc: Global, body: &RecordBody) -> Result<Entry, AllocError>
+    ensures { IfOk result (λ e. texts (string_bytes e.year) (string_bytes e.line) ≡ body_entry body.now) }
+{
+    match body {
         RecordBody::Retrieval(external) => content_entry(
             alloc,
             &external.direct,
@@ -250,6 +297,34 @@ pub(crate) fn entry_of(alloc: Global, record: &Record) -> Result<Entry, AllocErr
             let line = String::from_str(alloc, "a part of a record")?;
             Ok(plain(alloc, line))
         }
+    }
+}
+
+/// Returns what is shown of a bibliographic record.
+fn bibliographic_entry(alloc: Global, found: &Option<External>) -> Result<Entry, AllocError>
+    ensures { IfOk result (λ e. texts (string_bytes e.year) (string_bytes e.line) ≡ bibliographic_entry found.now) }
+{
+    match found {
+        None => {
+            let line = String::from_str(alloc, "copies of a record that is not there")?;
+            Ok(plain(alloc, line))
+        }
+        Some(external) => content_entry(alloc, &external.direct, &external.content),
+    }
+}
+
+/// Returns what is shown of a record, or of what stands in its place; of a record with its copies the bibliographic
+/// record.
+pub(crate) fn entry_with(
+    alloc: Global,
+    record: &Record,
+    opac: &Option<OpacRecord>,
+) -> Result<Entry, AllocError>
+    ensures { IfOk result (λ e. texts (string_bytes e.year) (string_bytes e.line) ≡ entry_with «record».now opac.now) }
+{
+    match opac {
+        None => body_entry(alloc, &record.body),
+        Some(found) => bibliographic_entry(alloc, &found.bibliographic),
     }
 }
 

@@ -1,9 +1,14 @@
 //! Laws of the definitions, each the contract of a function that does nothing.
-ghost use Rattle.zknow_titles.specs.Laws.{SafeLaw, NamesLaw};
+ghost use Rattle.zknow_titles.specs.Laws.{SafeLaw, QuietLaw, NamesLaw};
 
-/// The view is safe to print on a terminal, whatever the names and the facts are.
+/// The view is safe to print on a terminal, whatever the names, the stops and the facts are.
 pub fn safe_law()
     ensures { SafeLaw }
+{}
+
+/// If no target stopped, the view is that of no stops: the line of each set, and the rows.
+pub fn quiet_law()
+    ensures { QuietLaw }
 {}
 
 /// The name of each row, as it is printed, takes at most 24 columns of a terminal, and as many as that of each other

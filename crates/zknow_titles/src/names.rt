@@ -23,13 +23,13 @@ pub(crate) fn show_names(alloc: Global, names: &Names) -> Result<Vec<String>, Al
 fn put_name(
     alloc: Global,
     shown: &[String],
-    target: u32,
+    target: usize,
     line: &mut String,
 ) -> Result<(), AllocError>
     ensures { OnOk result (string_bytes line.new
         ≡ string_bytes line.old ++ name_or_number target (slice_get (map string_bytes shown.now) target)) }
 {
-    match shown.get(target as usize) {
+    match shown.get(target) {
         None => {
             line.push('#')?;
             let number = target.to_string(alloc)?;
@@ -37,6 +37,16 @@ fn put_name(
         }
         Some(name) => line.push_str(name.as_str()),
     }
+}
+
+/// Returns the name of a target, or `#` and its number where it has no name.
+pub(crate) fn name_of(alloc: Global, shown: &[String], target: usize) -> Result<String, AllocError>
+    ensures { IfOk result (λ found. string_bytes found
+        ≡ name_or_number target (slice_get (map string_bytes shown.now) target)) }
+{
+    let mut found = String::new(alloc);
+    put_name(alloc, shown, target, &mut found)?;
+    Ok(found)
 }
 
 /// Appends the number of a set other than the connection and the first.
@@ -62,7 +72,7 @@ pub(crate) fn label_of(
     ensures { IfOk result (λ found. string_bytes found ≡ label (map string_bytes shown.now) target set) }
 {
     let mut found = String::new(alloc);
-    put_name(alloc, shown, target, &mut found)?;
+    put_name(alloc, shown, target as usize, &mut found)?;
     put_set(alloc, set, &mut found)?;
     Ok(found)
 }

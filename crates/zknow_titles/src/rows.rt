@@ -1,16 +1,20 @@
 //! The rows of the view: position, name, year, text.
 ghost use Rattle.std.specs.Prelude.{◌≡◌, ◌++◌, OnOk, IfOk, map, max, string_bytes};
-ghost use Rattle.zknow_titles.specs.Entries.{texts, entry};
+ghost use Rattle.std.specs.List.{flat_map};
+ghost use Rattle.zopac.specs.Copies.{holding_line};
+ghost use Rattle.zknow_titles.specs.Entries.{texts, entry, opac_of};
+ghost use Rattle.zknow_titles.specs.Columns.{spaces};
 ghost use Rattle.zknow_titles.specs.Lines.{ended_line, ended};
-ghost use Rattle.zknow_titles.specs.Rows.{row_name, wider, widths, row_head, row_entry, further_line, several, record_lines, row_lines};
+ghost use Rattle.zknow_titles.specs.Rows.{row_name, wider, widths, row_head, row_entry, further_entry, copy_row, copy_rows, further_lines, several, record_lines, row_lines};
 
 use crate::blocks::records_of;
 use crate::columns::{clip, count_columns, put_padded, put_spaces};
-use crate::entries::{Entry, entry_of};
+use crate::entries::{Entry, entry_with, opac_of, plain};
 use crate::names::label_of;
 use std::alloc::{AllocError, Global};
 use zapdu::Record;
 use zknow::{Knowledge, RowKey};
+use zopac::{Holding, OpacRecord, put_holding};
 
 /// The most columns of a name.
 const NAME_COLUMNS: usize = 24;
@@ -106,37 +110,104 @@ fn put_entry(entry: &Entry, out: &mut Vec<u8>) -> Result<(), AllocError>
     out.extend_from_slice(b"\n")
 }
 
-/// Appends the year and the text of a record, and a line feed.
-fn put_record(alloc: Global, record: &Record, out: &mut Vec<u8>) -> Result<(), AllocError>
-    ensures { OnOk result (out.new.items ≡ out.old.items ++ ended_line (row_entry (entry «record».now))) }
+/// Appends spaces up to the column of years.
+fn put_indent(w: &Widths, out: &mut Vec<u8>) -> Result<(), AllocError>
+    ensures { OnOk result (out.new.items
+        ≡ out.old.items ++ (spaces 6 ++ spaces w.now.position ++ spaces w.now.name)) }
 {
-    let entry = entry_of(alloc, record)?;
+    put_spaces(6, out)?;
+    put_spaces(w.position, out)?;
+    put_spaces(w.name, out)
+}
+
+/// Appends the line of a copy.
+fn put_copy(
+    alloc: Global,
+    w: &Widths,
+    holding: &Holding,
+    out: &mut Vec<u8>,
+) -> Result<(), AllocError>
+    ensures { OnOk result (out.new.items
+        ≡ out.old.items ++ ended_line (copy_row w.now (holding_line holding.now))) }
+{
+    put_indent(w, out)?;
+    let mut line = String::new(alloc);
+    put_holding(alloc, holding, &mut line)?;
+    let entry = plain(alloc, line);
     put_entry(&entry, out)
 }
 
-/// Appends a line of its own for a further record of a row.
+/// Appends the line of each copy.
+fn put_each_copy(
+    alloc: Global,
+    w: &Widths,
+    holdings: &[Holding],
+    out: &mut Vec<u8>,
+) -> Result<(), AllocError>
+    ensures { OnOk result (out.new.items
+        ≡ out.old.items ++ ended (map (copy_row w.now) (map holding_line holdings.now))) }
+{
+    for holding in holdings {
+        put_copy(alloc, w, holding, out)?;
+    }
+    Ok(())
+}
+
+/// Appends the lines of a record's copies, if it has any.
+fn put_copies(
+    alloc: Global,
+    w: &Widths,
+    opac: &Option<OpacRecord>,
+    out: &mut Vec<u8>,
+) -> Result<(), AllocError>
+    ensures { OnOk result (out.new.items ≡ out.old.items ++ ended (copy_rows w.now opac.now)) }
+{
+    let Some(record) = opac else {
+        return Ok(());
+    };
+    match &record.holdings {
+        None => Ok(()),
+        Some(holdings) => put_each_copy(alloc, w, holdings.as_slice(), out),
+    }
+}
+
+/// Appends the year and the text of a record, and a line feed; then the lines of its copies.
+fn put_record(
+    alloc: Global,
+    w: &Widths,
+    record: &Record,
+    out: &mut Vec<u8>,
+) -> Result<(), AllocError>
+    ensures { OnOk result (out.new.items ≡ out.old.items
+        ++ (ended_line (row_entry (entry «record».now)) ++ ended (copy_rows w.now (opac_of «record».now)))) }
+{
+    let opac = opac_of(alloc, record)?;
+    let entry = entry_with(alloc, record, &opac)?;
+    put_entry(&entry, out)?;
+    put_copies(alloc, w, &opac, out)
+}
+
+/// Appends lines of its own for a further record of a row.
 fn put_further(
     alloc: Global,
     w: &Widths,
     record: &Record,
     out: &mut Vec<u8>,
 ) -> Result<(), AllocError>
-    ensures { OnOk result (out.new.items ≡ out.old.items ++ ended_line (further_line w.now «record».now)) }
+    ensures { OnOk result (out.new.items ≡ out.old.items ++ ended (further_lines w.now «record».now)) }
 {
-    put_spaces(6, out)?;
-    put_spaces(w.position, out)?;
-    put_spaces(w.name, out)?;
-    put_record(alloc, record, out)
+    put_indent(w, out)?;
+    put_record(alloc, w, record, out)
 }
 
-/// Appends a line of its own for each record.
+/// Appends lines of its own for each record.
 fn put_each(
     alloc: Global,
     w: &Widths,
     records: &[Record],
     out: &mut Vec<u8>,
 ) -> Result<(), AllocError>
-    ensures { OnOk result (out.new.items ≡ out.old.items ++ ended (map (further_line w.now) records.now)) }
+    ensures { OnOk result (out.new.items ≡ out.old.items ++ ended (flat_map (further_lines w.now) records.now)) }
 {
     for record in records {
         put_further(alloc, w, record, out)?;
@@ -174,7 +245,7 @@ fn put_records(
         [] => Ok(()),
         [record] => {
             out.extend_from_slice(head)?;
-            put_record(alloc, record, out)
+            put_record(alloc, w, record, out)
         }
         _ => {
             put_several(alloc, head, records.len(), out)?;

@@ -1,40 +1,23 @@
 //! The view for readers.
 ghost use Rattle.std.specs.Prelude.{◌≡◌, ◌++◌, OnOk, OnErr, IfOk, map, string_bytes};
 ghost use Rattle.std.specs.List.{flat_map};
-ghost use Rattle.zknow_titles.specs.Blocks.{block_line};
 ghost use Rattle.zknow_titles.specs.Laws.{IsSafeView, HasNameColumns};
-ghost use Rattle.zknow_titles.specs.Lines.{ended_line, ended};
+ghost use Rattle.zknow_titles.specs.Lines.{ended};
 ghost use Rattle.zknow_titles.specs.Rows.{row_lines};
 ghost use Rattle.zknow_titles.specs.Titles.{between, title_lines, titles};
 
-use crate::blocks::put_block;
+use crate::heads::show_head;
 use crate::names::show_names;
 use crate::rows::{Widths, find_widths, put_row};
 use std::alloc::{AllocError, Global};
 use zknow::{Knowledge, Names, RowKey, SetKey};
+use zknow_stops::Stop;
 
-/// Appends the line of each set.
-fn put_blocks(
-    alloc: Global,
-    shown: &[String],
-    knowledge: &Knowledge,
-    sets: &[SetKey],
-    out: &mut Vec<u8>,
-) -> Result<(), AllocError>
-    ensures { OnOk result (out.new.items
-        ≡ out.old.items ++ ended (map (block_line (map string_bytes shown.now) knowledge.now) sets.now)) }
+/// Appends an empty line where there are a head and rows.
+fn put_between(head: &[u8], rows: &[RowKey], out: &mut Vec<u8>) -> Result<(), AllocError>
+    ensures { OnOk result (out.new.items ≡ out.old.items ++ ended (between head.now rows.now)) }
 {
-    for key in sets {
-        put_block(alloc, shown, knowledge, key, out)?;
-    }
-    Ok(())
-}
-
-/// Appends an empty line where there are sets and rows.
-fn put_between(sets: &[SetKey], rows: &[RowKey], out: &mut Vec<u8>) -> Result<(), AllocError>
-    ensures { OnOk result (out.new.items ≡ out.old.items ++ ended (between sets.now rows.now)) }
-{
-    if sets.is_empty() || rows.is_empty() {
+    if head.is_empty() || rows.is_empty() {
         return Ok(());
     }
     out.extend_from_slice(b"\n")
@@ -58,34 +41,41 @@ fn put_rows(
     Ok(())
 }
 
-/// Appends the lines of the sets and of the rows.
+/// Appends the lines of the targets and of the rows.
 fn put_lines(
     alloc: Global,
     shown: &[String],
     knowledge: &Knowledge,
+    stops: &[Option<Stop>],
     sets: &[SetKey],
     rows: &[RowKey],
     out: &mut Vec<u8>,
 ) -> Result<(), AllocError>
     ensures { OnOk result (out.new.items
-        ≡ out.old.items ++ ended (title_lines (map string_bytes shown.now) knowledge.now sets.now rows.now)) }
+        ≡ out.old.items ++ ended (title_lines (map string_bytes shown.now) stops.now knowledge.now sets.now rows.now)) }
 {
-    put_blocks(alloc, shown, knowledge, sets, out)?;
-    put_between(sets, rows, out)?;
+    let head = show_head(alloc, shown, knowledge, stops, sets)?;
+    out.extend_from_slice(&head)?;
+    put_between(&head, rows, out)?;
     let w = find_widths(alloc, shown, rows)?;
     put_rows(alloc, &w, shown, knowledge, rows, out)
 }
 
 /// Returns the view as a text of its own.
 #[tactic(auto, unfolding(crate::specs::Titles::titles))]
-fn view(alloc: Global, knowledge: &Knowledge, names: &Names) -> Result<Vec<u8>, AllocError>
-    ensures { IfOk result (λ text. text.items ≡ titles names.now knowledge.now) }
+fn view(
+    alloc: Global,
+    knowledge: &Knowledge,
+    names: &Names,
+    stops: &[Option<Stop>],
+) -> Result<Vec<u8>, AllocError>
+    ensures { IfOk result (λ text. text.items ≡ titles names.now stops.now knowledge.now) }
 {
     let mut text = Vec::new(alloc);
     let shown = show_names(alloc, names)?;
     let sets = knowledge.sets()?;
     let rows = knowledge.rows()?;
-    put_lines(alloc, &shown, knowledge, &sets, &rows, &mut text)?;
+    put_lines(alloc, &shown, knowledge, stops, &sets, &rows, &mut text)?;
     Ok(text)
 }
 
@@ -94,11 +84,15 @@ fn view(alloc: Global, knowledge: &Knowledge, names: &Names) -> Result<Vec<u8>, 
 /// known, by position, target and set. Of several records at a position it says how many they are, and then shows
 /// each.
 ///
+/// Entry `c` of `stops` says why the connection of target `c` stopped; without an entry it did not. These words stand
+/// behind the line of the target's last set. If the target was not reached, or no set of it has a line, they are a line
+/// of its own behind those of its sets.
+///
 /// A target has its name in `names`, else `#` and its number. The name of a row takes at most 24 columns of a terminal,
 /// by the widths of `unicode_width`, and is filled up to as many columns as the widest.
 ///
-/// Whatever the names, the diagnostics and the records are, the text is safe to print on a terminal: its lines are
-/// UTF-8 of safe characters alone (`IsSafeText` of `zmarc`).
+/// Whatever the names, the stops, the diagnostics and the records are, the text is safe to print on a terminal: its
+/// lines are UTF-8 of safe characters alone (`IsSafeText` of `zmarc`).
 ///
 /// Returns `AllocError` if no memory is found; nothing is appended.
 #[tactic(auto, using(crate::proofs::SafeTheory::view_is_safe))]
@@ -106,13 +100,14 @@ pub fn print_titles(
     alloc: Global,
     knowledge: &Knowledge,
     names: &Names,
+    stops: &[Option<Stop>],
     out: &mut Vec<u8>,
 ) -> Result<(), AllocError>
-    ensures ok { OnOk result (out.new.items ≡ out.old.items ++ titles names.now knowledge.now) }
+    ensures ok { OnOk result (out.new.items ≡ out.old.items ++ titles names.now stops.now knowledge.now) }
     ensures err { OnErr result (out.new.items ≡ out.old.items) }
-    ensures safe { IsSafeView (titles names.now knowledge.now) }
+    ensures safe { IsSafeView (titles names.now stops.now knowledge.now) }
     ensures columns { HasNameColumns names.now knowledge.now }
 {
-    let text = view(alloc, knowledge, names)?;
+    let text = view(alloc, knowledge, names, stops)?;
     out.extend_from_slice(&text)
 }

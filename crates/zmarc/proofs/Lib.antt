@@ -2,9 +2,11 @@ pub mod AnselTheory
 pub mod BehindTheory
 pub mod BriefTheory
 pub mod Cuts
+pub mod EndTheory
 pub mod FieldTheory
 pub mod LawTheory
 pub mod NothingTheory
+pub mod SafeFields
 pub mod SafeTheory
 pub mod ShownTheory
 pub mod SubfieldTheory

@@ -104,7 +104,7 @@ pub shown_is_safe : (cs : List ℕ) → IsSafeText (shown_text cs)
 unfolding shown_text
 shown_is_safe cs = safe_encoded (filter (λ c. not (is_sort_mark c)) cs)
 
-nothing_is_safe : IsSafeText []
+pub nothing_is_safe : IsSafeText []
 nothing_is_safe = record {
   characters = [];
   spelled = refl;
@@ -144,7 +144,7 @@ piece_is_safe line piece first then =
     cond_both (eqb (length line) 0) piece (line ++ 0x20 ∷ piece) IsSafeText (λ _. then)
     (λ _. append_is_safe line (0x20 ∷ piece) first (append_is_safe (0x20 ∷ []) piece space_is_safe then))
 
-joined_is_safe : (set : Charset) (line : List ℕ) (found : List (List ℕ)) → IsSafeText line
+pub joined_is_safe : (set : Charset) (line : List ℕ) (found : List (List ℕ)) → IsSafeText line
     → IsSafeText (joined set line found)
 unfolding joined
 joined_is_safe set line [] first = first

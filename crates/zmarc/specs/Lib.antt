@@ -1,6 +1,7 @@
 pub mod Ansel
 pub mod Briefs
 pub mod Charsets
+pub mod Fields
 pub mod Isbns
 pub mod Laws
 pub mod Marc8
@@ -9,5 +10,6 @@ pub mod Records
 pub mod References
 pub mod Shown
 pub mod Subfields
+pub mod Syntaxes
 pub mod Written
 pub mod Years

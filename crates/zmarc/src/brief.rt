@@ -37,7 +37,7 @@ fn declares_utf8(octets: &[u8], format: Format) -> bool
 
 /// The character set of a record: UTF-8 where it says so, and where its own octets (`cut_own_octets`) are UTF-8 as a
 /// whole, with octets beyond ASCII; else that of its format.
-fn choose_charset(octets: &[u8], format: Format) -> Charset
+pub(crate) fn choose_charset(octets: &[u8], format: Format) -> Charset
     ensures { result ≡ charset format octets.now }
 {
     if declares_utf8(octets, format) || is_utf8_beyond_ascii(cut_own_octets(octets)) {
@@ -63,7 +63,7 @@ fn put_piece(
 }
 
 /// Appends pieces as they are shown, each with a space before it where the line has anything by then.
-fn put_pieces(
+pub(crate) fn put_pieces(
     alloc: Global,
     charset: Charset,
     pieces: &[&[u8]],

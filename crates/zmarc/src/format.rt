@@ -2,6 +2,7 @@
 ghost use Rattle.std.specs.Prelude.{◌≡◌};
 ghost use Rattle.std.specs.Option.{option_copied};
 ghost use Rattle.zmarc.specs.Briefs.{title_tag, title_codes, mark_before, maker_code, other_charset};
+ghost use Rattle.zmarc.specs.Fields.{title_alone_codes};
 ghost use Rattle.zmarc.specs.Isbns.{isbn_tag};
 
 use crate::charset::Charset;
@@ -33,6 +34,16 @@ impl Format {
         match self {
             Self::Marc21 => b"abnpc",
             Self::Unimarc => b"aefg",
+        }
+    }
+
+    /// The codes of those that are the title without the statement of responsibility.
+    pub(crate) fn title_alone_codes(self) -> &'static [u8]
+        ensures { result.now ≡ title_alone_codes self }
+    {
+        match self {
+            Self::Marc21 => b"abnp",
+            Self::Unimarc => b"ae",
         }
     }
 

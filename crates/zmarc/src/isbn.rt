@@ -63,7 +63,11 @@ fn find_isbn_of_fields<'a>(fields: &[&'a [u8]]) -> Option<&'a [u8]>
 /// The number of the first field, of all that have the tag, whose first `$a` begins with one: with a word that has a
 /// digit.
 #[tactic(auto, unfolding(crate::specs::Isbns::isbn_number))]
-fn find_isbn(alloc: Global, octets: &[u8], format: Format) -> Result<Option<&[u8]>, AllocError>
+pub(crate) fn find_isbn(
+    alloc: Global,
+    octets: &[u8],
+    format: Format,
+) -> Result<Option<&[u8]>, AllocError>
     ensures { IfOk result (λ found. option_copied found ≡ isbn_number format octets.now) }
 {
     let fields = gather_tagged_fields(alloc, octets, format.isbn_tag())?;

@@ -1,10 +1,11 @@
 //! Bibliographic records of ISO 2709 (ANSI/NISO Z39.2) as one readable line each: the title and who made it, and the
-//! ISBN, of records in MARC 21 and UNIMARC; and the year. The line is text that is safe to print, whatever the octets
-//! are.
+//! ISBN, of records in MARC 21 and UNIMARC; and year, title, author and ISBN each by itself. All of these are texts
+//! that are safe to print, whatever the octets are.
 #![tactic(auto)]
 
 mod brief;
 mod charset;
+mod fields;
 mod format;
 mod isbn;
 pub mod laws;
@@ -14,11 +15,14 @@ mod pieces;
 mod records;
 mod shown;
 mod subfields;
+mod syntax;
 mod year;
 
 pub use brief::put_brief;
 pub use charset::{Charset, put_text};
+pub use fields::{put_author, put_isbn, put_title, put_year};
 pub use format::Format;
 pub use records::{count_lost, first_field, is_record};
 pub use subfields::subfield_in;
+pub use syntax::format_of;
 pub use year::find_year;

@@ -14,7 +14,7 @@ use std::alloc::{AllocError, Global};
 
 /// Takes what is shown of a subfield of the title: the mark of ISBD that stands before it, and its data. It takes
 /// nothing where they are empty, and of a subfield that is not shown.
-fn take_part<'a>(
+pub(crate) fn take_part<'a>(
     format: Format,
     code: u8,
     data: &'a [u8],
@@ -69,7 +69,7 @@ fn take_title<'a>(
 
 /// The main heading: the first that the record has of those that its format may have.
 #[tactic(auto, unfolding(crate::specs::Briefs::heading))]
-fn find_heading(octets: &[u8], format: Format) -> Option<&[u8]>
+pub(crate) fn find_heading(octets: &[u8], format: Format) -> Option<&[u8]>
     ensures { option_copied result ≡ heading format octets.now }
 {
     match format {

@@ -11,4 +11,5 @@ pub mod Reading
 pub mod Troubles
 pub mod Running
 pub mod Listing
+pub mod Stopping
 pub mod Calling

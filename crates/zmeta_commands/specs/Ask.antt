@@ -46,7 +46,7 @@ pub record IsAskedOf (choice : ChoiceTexts) (view : View) (e : NetworkRun) (r : 
   pub chosen : List (Option (List ℕ))
   pub picks : IsChosen choice.only e.names e.addresses chosen
   pub asked : IsAsked e.questions e.settings choice.manner choice.limits chosen r.meta
-  pub listed : IsListed r.meta e.names chosen view r
+  pub listed : IsListed choice.limits r.meta e.names chosen view r
 
 -- the hosts of the file were asked
 abbrev pub AreAsked : ChoiceTexts → SearchTexts → View → List ℕ → Finished → Type 0

@@ -4,6 +4,9 @@ use Rattle.std.specs.Prelude.{codes, slice_get, Option, Some, None, Result, Ok, 
 use Rattle.zapdu.specs.Text.{quoted}
 use Rattle.zmeta_args.specs.declared.arguments.View.{View}
 use Rattle.zknow.specs.Known.{HasFailure}
+use Rattle.zknow_stops.specs.declared.stop.Stop.{Stop}
+use Rattle.zoom.specs.Limits.{Limits}
+use Rattle.zmeta_commands.specs.Stops.{AreStops}
 use Rattle.zmeta_commands.specs.Views.{printed}
 use Rattle.zknow.specs.Saved.Saved.{IsSaved, HasTooDeep, HasTooLong}
 use Rattle.zoom.specs.State.{State}
@@ -24,14 +27,16 @@ use Rattle.zmeta_commands.specs.declared.finished.Finished.{Finished}
 abbrev pub asker : List ℕ
 asker = codes "zmeta"
 
--- the list of the facts of these connections, whose questions were put to these addresses, or to targets in memory
-pub record IsListed
-    (meta : MetaLinks) (names : List (List ℕ)) (addresses : List (Option (List ℕ))) (view : View) (r : Finished)
-    : Type 0 where
+-- the list of the facts of these connections, and why they stopped, with these limits; their questions were put to these
+-- addresses, or to targets in memory
+pub record IsListed (limits : Limits) (meta : MetaLinks) (names : List (List ℕ)) (addresses : List (Option (List ℕ)))
+    (view : View) (r : Finished) : Type 0 where
   pub of : r.meta ≡ meta
   pub at : r.addresses.items ≡ addresses
   pub named : r.names ≡ names
-  pub list : r.list.items ≡ printed names view meta.pool.knowledge
+  pub stops : List (Option Stop)
+  pub stopped : AreStops limits meta stops
+  pub list : r.list.items ≡ printed names view stops meta.pool.knowledge
 
 -- each connection has a name, and there are fewer than 2 ^ 32
 pub record HasNames (r : Finished) : Type 0 where

@@ -103,7 +103,7 @@ module _ (octets : List ℕ → Option (List ℕ)) where
   -- the list of the facts of all files together
   abbrev pub IsListOf : View → List (List ℕ) → List Fact → List ℕ → Type 0
   IsListOf view paths facts text =
-      (names : List (List ℕ)) × AreJoined names paths facts × (text ≡ printed names view facts)
+      (names : List (List ℕ)) × AreJoined names paths facts × (text ≡ printed names view [] facts)
 
 -- ---- the command
 

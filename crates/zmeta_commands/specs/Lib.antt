@@ -16,6 +16,7 @@ pub mod Run
 pub mod Serve
 pub mod Show
 pub mod Steps
+pub mod Stops
 pub mod Arguments
 pub mod Views
 pub mod Worlds

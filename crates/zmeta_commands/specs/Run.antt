@@ -6,6 +6,7 @@ use Rattle.zmeta_world.specs.declared.in_memory.InMemoryRun.{InMemoryRun}
 use Rattle.zmeta_world.specs.Worlds.{IsRefused}
 use Rattle.zmeta_world.specs.Search.{SearchTexts}
 use Rattle.zmeta_world.specs.InMemoryRuns.{IsInMemoryRun, IsFirstHostLine}
+use Rattle.zoom.specs.Limits.{Limits}
 use Rattle.zoom.specs.Run.{IsRun}
 use Rattle.zoom.specs.RunMade.{IsMovedRunInMemory}
 use Rattle.zoom.specs.RunRounds.{IsCompleteRun}
@@ -39,7 +40,8 @@ ReadInMemoryResult search file (Err f) = IsSearchRefusal search f
 
 -- the plan was run: each target was asked its question, and the list has the facts
 abbrev pub IsListedRun : View → InMemoryRun → Finished → Type 0
-IsListedRun view a r = IsRun a.questions a.settings a.targets r.meta × IsListed r.meta a.names [] view r
+IsListedRun view a r = IsRun a.questions a.settings a.targets r.meta
+    × ((limits : Limits) × IsListed limits r.meta a.names [] view r)
 
 -- the plan was run, and each exchange was complete unless a reply was longer than a message may be; the run began with
 -- the moves of the plan, in order

@@ -24,7 +24,7 @@ use std::net::Net;
 use std::time::Clock;
 use zmeta_args::{SearchOptions, View};
 use zmeta_world::network::NetworkRun;
-use zoom::{Limits, Manner, Meta, MetaSettings, Question, ask};
+use zoom::{Asked, Limits, Manner, MetaSettings, Question, ask};
 
 /// Puts each chosen question of a world file to its host over TCP, and prints what is known: as the list, the view
 /// for readers or lines of JSON, as `view` says. The hosts are asked at once or one after the other, as `choice` says.
@@ -114,7 +114,7 @@ fn ask_network<'a, N: Net + Clock, P: Write + Drop>(
     } = network;
     let chosen = addresses_of(alloc, choice.only, names.as_slice(), addresses.as_slice())?;
     let progress = Progress::new(alloc, net, screen, names.as_slice(), chosen.as_slice());
-    let meta = ask_watched(
+    let asked = ask_watched(
         alloc,
         net,
         questions.into_vec(),
@@ -124,7 +124,15 @@ fn ask_network<'a, N: Net + Clock, P: Write + Drop>(
         choice.limits,
         progress,
     )?;
-    Ok(Finished::new(alloc, meta, names, chosen, view)?)
+    Ok(Finished::new(
+        alloc,
+        asked.meta,
+        names,
+        chosen,
+        asked.notices.as_slice(),
+        &choice.limits,
+        view,
+    )?)
 }
 
 /// Asks hosts, and shows the progress meanwhile.
@@ -137,12 +145,12 @@ fn ask_watched<N: Net + Clock, C: Clock, P: Write + Drop>(
     manner: Manner,
     limits: Limits,
     mut progress: Progress<'_, C, P>,
-) -> Result<Meta, AllocError>
+) -> Result<Asked, AllocError>
     requires some { length questions.items < 2 ^ 32 }
     requires askable { AreAskable questions.items }
     requires fit { AreFit settings }
     requires equal { length addresses.now ≡ length questions.items }
-    ensures { IfOk result (λ meta. IsAsked questions.items settings manner limits addresses.now meta) }
+    ensures { IfOk result (λ asked. IsAsked questions.items settings manner limits addresses.now asked.meta) }
 {
     let asked = ask(
         alloc,
@@ -155,5 +163,5 @@ fn ask_watched<N: Net + Clock, C: Clock, P: Write + Drop>(
         &mut progress,
     )?;
     progress.wipe();
-    Ok(asked.meta)
+    Ok(asked)
 }

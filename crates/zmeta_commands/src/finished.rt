@@ -1,6 +1,6 @@
 //! The end of a command that asks: prints the list, reports failed connections, and saves the facts.
 
-ghost use Rattle.std.specs.Prelude.{◌≡◌, IfOk, MatchResult, Ok, Err};
+ghost use Rattle.std.specs.Prelude.{◌≡◌, ◌<◌, ◌^◌, length, IfOk, MatchResult, Ok, Err};
 ghost use Rattle.std.specs.Option.{option_map};
 ghost use Rattle.zmeta_commands.specs.Devices.{outputs};
 ghost use Rattle.zmeta_commands.specs.Finished.{HasNames, IsListed, PutFinishedResult, SavedOctetsResult, MakeFileResult, SaveResult, FinishResult, AfterAsked};
@@ -9,6 +9,7 @@ use crate::failures::failure_lines;
 use crate::fault::{Fault, Status, end, report_failure};
 use crate::files::Folder;
 use crate::output::Output;
+use crate::stops::stops_of;
 use crate::trouble::finished_status;
 use crate::view::print_view;
 use bytes::Bytes;
@@ -16,7 +17,7 @@ use std::alloc::{AllocError, Global};
 use std::io::Write;
 use zknow::{Names, SaveError, save};
 use zmeta_args::View;
-use zoom::Meta;
+use zoom::{Limits, Meta, Notice};
 
 /// The program's name as an origin.
 pub(crate) const NAME: &[u8] = b"zmeta";
@@ -45,18 +46,30 @@ pub struct Paths<'a> {
 }
 
 impl Finished {
-    /// Returns finished connections, with the list of their facts.
+    /// Returns finished connections, with the list of their facts, and why they stopped. `noticed` is what was noticed of
+    /// the host of each connection.
     pub(crate) fn new(
         alloc: Global,
         meta: Meta,
         names: Names,
         addresses: Vec<Option<Bytes>>,
+        noticed: &[Notice],
+        limits: &Limits,
         view: View,
     ) -> Result<Finished, AllocError>
-        ensures { IfOk result (IsListed meta names addresses.items view) }
+        requires { length meta.pool.connections < 2 ^ 32 }
+        ensures { IfOk result (IsListed limits.now meta names addresses.items view) }
     {
+        let stops = stops_of(alloc, &meta, noticed, limits)?;
         let mut list = Vec::new(alloc);
-        print_view(alloc, meta.knowledge(), &names, view, &mut list)?;
+        print_view(
+            alloc,
+            meta.knowledge(),
+            &names,
+            stops.as_slice(),
+            view,
+            &mut list,
+        )?;
         Ok(Finished {
             meta,
             names,

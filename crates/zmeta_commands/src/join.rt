@@ -54,7 +54,7 @@ fn join_files<'a, 'o: 'a, F: Folder, W: Write>(
     let known = load_all(alloc, files, first, others)?;
     let status = known_status(&known.0);
     let mut text = Vec::new(alloc);
-    let printed = print_view(alloc, &known.0, &known.1, view, &mut text);
+    let printed = print_view(alloc, &known.0, &known.1, &[], view, &mut text);
     drop(known);
     printed?;
     put_list(output, text.as_slice(), status)

@@ -23,6 +23,7 @@ pub mod run;
 mod searches;
 pub mod serve;
 pub mod show;
+mod stops;
 mod trouble;
 mod usage;
 mod view;

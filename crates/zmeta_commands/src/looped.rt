@@ -18,7 +18,7 @@ use std::io::Write;
 use std::net::Net;
 use zmeta_args::{SearchOptions, View};
 use zmeta_world::in_memory::InMemoryRun;
-use zoom::run_loopback;
+use zoom::{Limits, run_loopback};
 
 /// Puts the questions of a world file to its targets, as `run_named` does, but each connection goes over TCP on
 /// 127.0.0.1, with both of its ends in this process. The moves of the file are ignored.
@@ -86,5 +86,6 @@ fn loop_in_memory<'a, N: Net>(
         settings,
         targets.into_vec(),
     )?;
-    Ok(Finished::new(alloc, meta, names, Vec::new(alloc), view)?)
+    let limits = Limits::default();
+    Ok(Finished::new(alloc, meta, names, Vec::new(alloc), &[], &limits, view)?)
 }

@@ -23,7 +23,7 @@ use std::alloc::{AllocError, Global};
 use std::io::Write;
 use zmeta_args::{SearchOptions, View};
 use zmeta_world::in_memory::InMemoryRun;
-use zoom::{InMemory, Meta, MetaSettings, Move, Question, run_over};
+use zoom::{InMemory, Limits, Meta, MetaSettings, Move, Question, run_over};
 use ztarget::Target;
 
 /// Puts the questions of a world file to its targets in memory, and prints what is known: as the list, the view for
@@ -130,5 +130,6 @@ fn run_in_memory(alloc: Global, run: InMemoryRun, view: View) -> Result<Finished
         targets.into_vec(),
         moves.as_slice(),
     )?;
-    Finished::new(alloc, meta, names, Vec::new(alloc), view)
+    let limits = Limits::default();
+    Finished::new(alloc, meta, names, Vec::new(alloc), &[], &limits, view)
 }

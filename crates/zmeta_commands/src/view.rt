@@ -5,25 +5,27 @@ ghost use Rattle.zmeta_commands.specs.Views.{printed};
 use std::alloc::{AllocError, Global};
 use zknow::{Knowledge, Mode, Names, print_list};
 use zknow_json::print_json;
+use zknow_stops::Stop;
 use zknow_titles::print_titles;
 use zmeta_args::View;
 
-/// Appends the list, the view for readers, or lines of JSON. Returns `AllocError` if no memory is found; `out` is
+/// Appends the list, the view for readers, or lines of JSON. The last two tell why connections stopped. Returns `AllocError` if no memory is found; `out` is
 /// unchanged.
 pub(crate) fn print_view(
     alloc: Global,
     knowledge: &Knowledge,
     names: &Names,
+    stops: &[Option<Stop>],
     view: View,
     out: &mut Vec<u8>,
 ) -> Result<(), AllocError>
-    ensures ok { OnOk result (out.new.items ≡ out.old.items ++ printed names.now view knowledge.now) }
+    ensures ok { OnOk result (out.new.items ≡ out.old.items ++ printed names.now view stops.now knowledge.now) }
     ensures err { OnErr result (out.new.items ≡ out.old.items) }
 {
     match view {
         View::Text => print_list(alloc, knowledge, names, Mode::Text, out),
         View::Hex => print_list(alloc, knowledge, names, Mode::Hex, out),
-        View::Titles => print_titles(alloc, knowledge, names, out),
-        View::Json => print_json(alloc, knowledge, names, out),
+        View::Titles => print_titles(alloc, knowledge, names, stops, out),
+        View::Json => print_json(alloc, knowledge, names, stops, out),
     }
 }

@@ -1,0 +1,3 @@
+pub mod JoinedTheory
+pub mod OpacTheory
+pub mod SafeTheory

@@ -1,0 +1,5 @@
+//! Tests of OPAC records and of the lines of their copies.
+#![tactic(auto)]
+
+#[cfg(test)]
+mod opacs;
