@@ -3,7 +3,7 @@
 with all that follow.
 
 A run has to end with status 4, `out of memory` and nothing printed, or as it does with ample memory. One that saves a file may have printed
-all, and leaves the older file as it is. A test has to tell that it wants memory while it makes itself ready, and from then on to pass: what
+all, and leaves the older file as it is, or saves. A test has to tell that it wants memory while it makes itself ready, and from then on to pass: what
 it tests asks again where memory was refused, and has to answer the same.
 
     python3 tests/out-of-memory/check.py       (once the program and the vectors are built; ZMETA may name another build)
@@ -88,8 +88,12 @@ def run(room, words, file, first, last):
 def is_refused(answer, ample):
     """Whether memory was refused, and is said to be."""
     status, printed, told, saved = answer
-    if saved is not None and (saved != OLDER or printed not in (b"", ample[1])):
+    # (the file is saved also if no memory is found for the list)
+    if saved is not None and (saved not in (OLDER, ample[3]) or printed not in (b"", ample[1])):
         return False
+    # Without memory for the path of the file beside it, the saved file counts as one that cannot be written.
+    if status == 3 and saved == OLDER and printed == ample[1]:
+        return b"zmeta: cannot write " in told
     return status == 4 and (saved is not None or not printed) and told.endswith(b"out of memory\n")
 
 
