@@ -107,11 +107,13 @@ complete -c zmeta -n '__zmeta_in ask run loop; and __zmeta_lacks --elements' -l 
 complete -c zmeta -n '__zmeta_in ask run loop; and __zmeta_lacks --syntax' -l syntax -x \
     -a 'marc21 unimarc xml sutrs opac grs1' \
     -d 'Asks every catalogue for records of this syntax: a name as marc21, or an OID'
-complete -c zmeta -n '__zmeta_in ask run loop join; and __zmeta_lacks --titles --json --hex' -l titles \
+complete -c zmeta -n '__zmeta_in ask run loop join; and __zmeta_lacks --titles --fields --json --hex' -l titles \
     -d 'Prints years and titles, to be read, in place of the list'
-complete -c zmeta -n '__zmeta_in ask run loop join; and __zmeta_lacks --titles --json --hex' -l json \
+complete -c zmeta -n '__zmeta_in ask run loop join; and __zmeta_lacks --titles --fields --json --hex' -l fields \
+    -d 'Prints what --titles prints, and below each row the fields of its record'
+complete -c zmeta -n '__zmeta_in ask run loop join; and __zmeta_lacks --titles --fields --json --hex' -l json \
     -d 'Prints a JSON object a line, for programs, in place of the list'
-complete -c zmeta -n '__zmeta_in ask run loop join; and __zmeta_lacks --titles --json --hex' -l hex \
+complete -c zmeta -n '__zmeta_in ask run loop join; and __zmeta_lacks --titles --fields --json --hex' -l hex \
     -d 'Prints the octets of records in hexadecimal'
 complete -c zmeta -n '__zmeta_in ask run loop; and __zmeta_lacks --save' -l save -r -F \
     -d 'Saves what was brought, in the file OUT'
@@ -122,6 +124,9 @@ complete -c zmeta -n '__zmeta_in records; and __zmeta_lacks --syntax' -l syntax 
     -d 'Writes just the records of this syntax: a name as marc21, or an OID'
 complete -c zmeta -n '__zmeta_in records; and __zmeta_lacks --conflicts' -l conflicts \
     -d 'Writes all records of a position for which several are known'
+complete -c zmeta -l explain \
+    -n '__zmeta_in ask run loop join records serve show pqf; and __zmeta_lacks --explain' \
+    -d 'Says below each fault, in words, what is wrong and what to write; terminals get that without it'
 
 complete -c zmeta -n '__zmeta_at 1 ask run loop join records' -F
 complete -c zmeta -n '__zmeta_in join records; and not __zmeta_at 1 join records' -F

@@ -1,8 +1,8 @@
 #!/usr/bin/env python3
 """Says whether each wrong body still changes a text that stands: each `old:` once in its file.
 
-The prover tries those of tests/mutants only on demand (tests/mutants/check), and one of crates/*/must-fail that changes
-nothing fails nothing, so a changed name could leave one that tries nothing. The status is 1 where a text is gone or
+Those of tests/mutants and tests/program/gives-up are tried only on demand (by the script check beside them), and one of
+crates/*/must-fail that changes nothing fails nothing, so a changed name could leave one that tries nothing. The status is 1 where a text is gone or
 stands twice.
 """
 import pathlib
@@ -32,7 +32,9 @@ def faults_of(edit, name):
 def main():
     left = [(edit, edit.parent.name) for edit in (TOP / "tests/mutants").glob("*/*.edit")]
     tried = [(edit, edit.parts[-3]) for edit in (TOP / "crates").glob("*/must-fail/*.edit")]
-    edits = sorted(left + tried)
+    # (the files of these are named from the top)
+    built = [(edit, "..") for edit in (TOP / "tests/program/gives-up").glob("*.edit")]
+    edits = sorted(left + tried + built)
     faults = [f"{edit.relative_to(TOP)}: {fault}" for edit, name in edits for fault in faults_of(edit, name)]
     for fault in faults:
         print(f"mutants: {fault}", file=sys.stderr)

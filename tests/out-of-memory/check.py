@@ -91,9 +91,6 @@ def is_refused(answer, ample):
     # (the file is saved also if no memory is found for the list)
     if saved is not None and (saved not in (OLDER, ample[3]) or printed not in (b"", ample[1])):
         return False
-    # Without memory for the path of the file beside it, the saved file counts as one that cannot be written.
-    if status == 3 and saved == OLDER and printed == ample[1]:
-        return b"zmeta: cannot write " in told
     return status == 4 and (saved is not None or not printed) and told.endswith(b"out of memory\n")
 
 

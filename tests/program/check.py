@@ -25,6 +25,7 @@ import large
 import marc_made
 import marc_views
 import names
+import opac_views
 import replies
 import saving
 import served
@@ -40,6 +41,7 @@ BUILT = os.path.join(os.path.dirname(os.path.dirname(HERE)), "crates/zmeta/out/z
 ZMETA = os.path.abspath(os.environ.get("ZMETA") or BUILT)
 FILES = os.path.join(HERE, "files")
 MUTILATED = 5000
+COPIED = 5000
 JSON_WORLDS, JSON_FACTS = 3000, 20000
 SEED = 1
 
@@ -148,7 +150,7 @@ def main():
     with tempfile.TemporaryDirectory() as room, ThreadPoolExecutor(len(os.sched_getaffinity(0))) as pool:
         shutil.copytree(FILES, room, dirs_exist_ok=True)
         os.mkdir(os.path.join(room, "folder"))
-        for table in ("show", "pqf", "join", "records", "worlds", "search", "json", "help", "full", "words"):
+        for table in ("show", "pqf", "join", "records", "worlds", "search", "json", "help", "full", "explained", "words"):
             look = fault_of_words if table == "words" else fault_of_row
             rows = rows_of(table)
             faults += [it for it in pool.map(lambda row: look(room, row), rows) if it]
@@ -189,6 +191,8 @@ def main():
         print(f"program: {len(made)} wide worlds")
         faults += marc_views.faults(ZMETA, room, [*marc_made.all_of_them(MUTILATED, SEED)], SEED)
         print(f"program: {MUTILATED} mutilated records")
+        faults += opac_views.faults(ZMETA, room, COPIED, SEED)
+        print(f"program: {COPIED} records with their copies")
         files = json_lines.files(JSON_WORLDS, JSON_FACTS, SEED)
         faults += [it for it in pool.map(lambda it: json_lines.fault_of(ZMETA, room, *it), files) if it]
         print(f"program: JSON of {JSON_WORLDS} worlds and {JSON_FACTS} facts")

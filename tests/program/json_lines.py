@@ -21,6 +21,7 @@ from concurrent.futures import ThreadPoolExecutor
 
 import marc_made
 import marc_model
+import opac_model
 import saved
 import worlds
 
@@ -108,11 +109,14 @@ def encoded(octets):
     if kind == 0xA1:
         ((_, external),) = elements(record)
         within = elements(external)
+        form, contents = within[-1]
         if within[0][0] == 0x06:
             said["syntax"] = dotted(within[0][1])
         said |= received("database", name[0][1]) if name else {}
-        if within[-1][0] == 0x81:
-            said |= marc_model.fields_told(said.get("syntax", ""), within[-1][1])
+        if form == 0x81:
+            said |= marc_model.fields_told(said.get("syntax", ""), contents)
+        opac = opac_model.read(contents) if form == 0xA0 and said.get("syntax") == opac_model.OPAC else None
+        said |= opac_model.told(*opac) if opac else {}
     return {"type": "record" if kind == 0xA1 else "element"}, {**said, "encoding": coded(octets)}
 
 
@@ -226,7 +230,11 @@ def content(dice):
 
 
 def external(dice):
-    """An EXTERNAL, often with a syntax and octets alone."""
+    """An EXTERNAL, often with a syntax and octets alone, or an OPAC record."""
+    if dice.randrange(3) == 0:
+        opac = saved.element(b"\xa0", opac_model.made(dice, RECORDS))
+        named = saved.object_identifier(opac_model.OPAC) if dice.randrange(8) else syntax(dice)
+        return saved.element(b"\x28", named, opac)
     if dice.randrange(2):
         return saved.element(b"\x28", syntax(dice), aligned(dice))
     fronts = (syntax(dice), integer(3), saved.element(b"\x07", octets(dice)))

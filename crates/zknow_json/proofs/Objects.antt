@@ -8,13 +8,13 @@ use Rattle.std.proofs.lemmas.Str.{IsUtf8-from_ascii}
 use Rattle.base64.specs.Engines.{standard}
 use Rattle.base64.specs.GeneralPurpose.{encode_of}
 use Rattle.base64.proofs.EngineFacts.{IsAscii-encode_of}
-use Rattle.json.specs.Token.{Token, begin_object, end_object, begin_array, end_array, key, string, number}
+use Rattle.json.specs.Token.{Token, begin_object, end_object, begin_array, end_array, key, string, number, boolean}
 use Rattle.json.specs.Json as json
 use Rattle.json.specs.Json.{Members, member, no_members, Items, item, no_items}
 use Rattle.json.specs.Strict.{AreDistinct, keys, MembersHaveUniqueKeys, ItemsHaveUniqueKeys, HasUniqueKeys}
 use Rattle.json.specs.Tree.{json_tokens, members_tokens, items_tokens, MembersHaveNumbers, ItemsHaveNumbers}
 use Rattle.json.proofs.Printed.Utf8.{are_ascii, IsUtf8-are_ascii}
-use Rattle.zknow_json.specs.Members.{text_member, natural_member, integer_member, octets_member, octets_unless_utf8, received_member, object, array_member}
+use Rattle.zknow_json.specs.Members.{text_member, natural_member, integer_member, boolean_member, octets_member, octets_unless_utf8, received_member, object, array_member}
 use Rattle.zknow_json.proofs.Keys.{ArePart, are_part, both_parts, wider_part, is_distinct, distinct_part}
 use Rattle.zknow_json.proofs.Numerals.{numeral_number, numeral_plain, numeral_ascii, signed_number, signed_plain, signed_ascii}
 use Rattle.zknow_json.proofs.PlainTokens.{IsPlainNumber, IsPlainToken}
@@ -138,6 +138,19 @@ pub integer_plain : (name : List ℕ) (n : ℤ) → are_ascii name ≡ true → 
 unfolding integer_member
 integer_plain name n a =
     number_plain name _ a (record { number = signed_number n; plain = signed_plain n; ascii = signed_ascii n })
+
+pub boolean_plain : (name : List ℕ) (b : Bool) → are_ascii name ≡ true → AreMembers (name ∷ []) (boolean_member name b)
+unfolding boolean_member
+boolean_plain name b a = record {
+  plain = first (key name) (boolean b ∷ []) (IsUtf8-are_ascii name a) (first (boolean b) [] tt none);
+  tree = λ rest. member name (json.boolean b) rest;
+  same = λ rest. refl;
+  numbers = λ rest h. (tt, h);
+  within = λ rest h. (tt, h);
+  own = name ∷ [];
+  keyed = λ rest. refl;
+  part = inl (refl, tt);
+}
 
 pub octets_plain : (name octets : List ℕ) → are_ascii name ≡ true → AreMembers (name ∷ []) (octets_member name octets)
 unfolding octets_member

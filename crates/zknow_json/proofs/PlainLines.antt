@@ -1,6 +1,6 @@
 -- The text consists of lines of JSON, whatever the names, the stops and the facts are.
 use Rattle.std.proofs.Common.{◌≡◌, ℕ, ◌+◌, ◌≤◌, ◌<◌, ℤ, pos, Bool, true, false, cond, Option, Some, None, List, [], ◌∷◌, ◌++◌, refl, sym, ap, subst, ◌∙◌, arith}
-use Rattle.std.specs.Prelude.{◌==◌, All, codes, length, slice_get, unwrap_or}
+use Rattle.std.specs.Prelude.{◌==◌, All, codes, slice_get}
 use Rattle.std.specs.List.{flat_map}
 use Rattle.std.specs.Ordering.{int_eq}
 use Rattle.std.specs.Str.{IsUtf8}
@@ -31,13 +31,6 @@ use Rattle.zknow.specs.Known.{counts_at, records_at, is_failed_at, diags_at}
 use Rattle.zknow.specs.List.Listing.{ascending, block_key_of, row_key_of}
 use Rattle.zknow.specs.Tables.Keys.{set_cmp, row_cmp}
 use Rattle.std.specs.List.{filter_map}
-use Rattle.zapdu.specs.declared.productions.external.Content.{Content}
-use Rattle.zapdu.specs.declared.productions.external.Content.TheVariants.{Single, Aligned, Arbitrary}
-use Rattle.zmarc.specs.declared.format.Format.{Format}
-use Rattle.zmarc.specs.Fields.{year_text, title_text, author_text, isbn_text}
-use Rattle.zmarc.specs.Syntaxes.{format_of}
-use Rattle.zmarc.proofs.SafeFields.{year_is_safe, title_is_safe, author_is_safe, isbn_is_safe}
-use Rattle.zknow_json.specs.Fields.{filled_member, marc_members, format_members, field_members}
 use Rattle.zknow_stops.specs.declared.detail.Detail.{Detail}
 use Rattle.zknow_stops.specs.declared.stop.Stop.{Stop}
 use Rattle.zknow_stops.specs.Details.{detail_words}
@@ -50,6 +43,7 @@ use Rattle.zknow_json.specs.Records.{syntax_member, database_member, contents_me
 use Rattle.zknow_json.specs.Sets.{catalogue_member, head, count_line, failure_line, condition_members, default_members, diag_members, place_member, diag_line, set_lines}
 use Rattle.zknow_json.specs.Stops.{reason_members, stop_line, stop_lines, lines_from}
 use Rattle.zknow_json.proofs.Objects.{AreMembers, AreItems, IsObject, no_items_plain, more_items, nothing, both, among, unless, text_plain, natural_plain, integer_plain, octets_plain, received_plain, object_plain, array_plain}
+use Rattle.zknow_json.proofs.PlainHoldings.{read_names, read_plain}
 use Rattle.zknow_json.proofs.PlainTokens.{print_plain, print_utf8}
 use Rattle.zknow_json.proofs.Utf8Texts.{dotted_utf8, lossy_utf8}
 
@@ -104,32 +98,6 @@ database_plain : (name : Option (List ℕ)) → AreMembers database_names (datab
 database_plain None = among database_names refl nothing
 database_plain (Some name) = received_plain (codes "database") (codes "databaseOctets") name refl refl
 
-filled_plain : (name text : List ℕ) → are_ascii name ≡ true → IsUtf8 text
-    → AreMembers (name ∷ []) (filled_member name text)
-unfolding filled_member
-filled_plain name text a u = unless (length text == 0) (text_plain name text a u)
-
-abbrev field_names : Names
-field_names = codes "year" ∷ codes "title" ∷ codes "author" ∷ codes "isbn" ∷ []
-
-marc_plain : (format : Format) (octets : List ℕ) → AreMembers field_names (marc_members format octets)
-unfolding marc_members
-marc_plain format octets =
-    both (both (both
-    (filled_plain (codes "year") (year_text format octets) refl (year_is_safe format octets).utf8)
-    (filled_plain (codes "title") (title_text format octets) refl (title_is_safe format octets).utf8))
-    (filled_plain (codes "author") (author_text format octets) refl (author_is_safe format octets).utf8))
-    (filled_plain (codes "isbn") (isbn_text format octets) refl (isbn_is_safe format octets).utf8)
-
-format_plain : (format : Option Format) (octets : List ℕ) → AreMembers field_names (format_members format octets)
-format_plain None octets = among field_names refl nothing
-format_plain (Some format) octets = marc_plain format octets
-
-fields_plain : (direct : Option (List ℕ)) (content : Content) → AreMembers field_names (field_members direct content)
-fields_plain direct (Single e) = among field_names refl nothing
-fields_plain direct (Aligned octets) = format_plain (format_of (unwrap_or direct []) octets) octets
-fields_plain direct (Arbitrary bits) = among field_names refl nothing
-
 abbrev contents_names : Names
 contents_names = codes "encoding" ∷ codes "octets" ∷ []
 
@@ -139,12 +107,12 @@ contents_plain r None =
 contents_plain r (Some p) = among contents_names refl (octets_plain (codes "octets") p.1 refl)
 
 abbrev body_names : Names
-body_names = codes "syntax" ∷ database_names ++ field_names ++ diag_names ++ codes "octets" ∷ []
+body_names = codes "syntax" ∷ database_names ++ read_names ++ diag_names ++ codes "octets" ∷ []
 
 body_plain : (r : Record) (body : RecordBody) → AreMembers body_names (body_members r body)
 body_plain r (Retrieval v) =
     among body_names refl
-    (both (both (both (syntax_plain v.direct) (database_plain r.name)) (fields_plain v.direct v.content))
+    (both (both (both (syntax_plain v.direct) (database_plain r.name)) (read_plain v.direct v.content))
     (contents_plain r (octets_alone v.direct v.indirect v.descriptor v.content)))
 body_plain r (Surrogate d) = among body_names refl (both (database_plain r.name) (diag_plain d))
 body_plain r (Fragment m) =

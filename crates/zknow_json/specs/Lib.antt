@@ -1,4 +1,5 @@
 pub mod Fields
+pub mod Holdings
 pub mod Laws
 pub mod Lines
 pub mod Members

@@ -1,11 +1,11 @@
 -- JSON objects (RFC 8259), by the tokens of their members. `print` of the kit's `json` spells tokens: without spaces,
 -- with the escapes of `"`, of the backslash and of the octets below 20.
-use Rattle.std.specs.Prelude.{ℕ, suc, ℤ, pos, negsuc, if◌then◌else◌, List, [], ◌∷◌, ◌++◌, codes}
+use Rattle.std.specs.Prelude.{ℕ, suc, ℤ, pos, negsuc, Bool, if◌then◌else◌, List, [], ◌∷◌, ◌++◌, codes}
 use Rattle.std.specs.Str.{is_utf8}
 use Rattle.std.specs.Str.Lossy.{utf8_lossy}
 use Rattle.base64.specs.Engines.{standard}
 use Rattle.base64.specs.GeneralPurpose.{encode_of}
-use Rattle.json.specs.Token.{Token, begin_object, end_object, begin_array, end_array, key, string, number}
+use Rattle.json.specs.Token.{Token, begin_object, end_object, begin_array, end_array, key, string, number, boolean}
 use Rattle.json.specs.Print.{print}
 use Rattle.zber.specs.Dotted.{numeral}
 
@@ -25,6 +25,10 @@ signed_numeral (negsuc n) = 0x2D ∷ numeral (suc n)
 -- a member with an integer
 unfoldable pub integer_member : List ℕ → ℤ → List Token
 integer_member name n = key name ∷ number (signed_numeral n) ∷ []
+
+-- a member with `true` or `false`
+unfoldable pub boolean_member : List ℕ → Bool → List Token
+boolean_member name b = key name ∷ boolean b ∷ []
 
 -- a member with octets, in base64 (RFC 4648, section 4)
 unfoldable pub octets_member : List ℕ → List ℕ → List Token

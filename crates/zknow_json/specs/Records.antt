@@ -12,7 +12,7 @@ use Rattle.zknow.specs.declared.fact.Fact.{Fact}
 use Rattle.zknow.specs.declared.tables.keys.RowKey.{RowKey}
 use Rattle.zknow.specs.Encodings.{encoding}
 use Rattle.zknow.specs.Known.{records_at}
-use Rattle.zknow_json.specs.Fields.{field_members}
+use Rattle.zknow_json.specs.Holdings.{read_members}
 use Rattle.zknow_json.specs.Members.{text_member, integer_member, octets_member, received_member, object, array_member, line}
 use Rattle.zknow_json.specs.Sets.{head, diag_members}
 
@@ -46,7 +46,7 @@ body_kind (Fragment m) = codes "element"
 -- what a line has of a record
 abbrev pub body_members : Record → RecordBody → List Token
 body_members r (Retrieval v) =
-    syntax_member v.direct ++ database_member r.name ++ field_members v.direct v.content
+    syntax_member v.direct ++ database_member r.name ++ read_members v.direct v.content
     ++ contents_member r (octets_alone v.direct v.indirect v.descriptor v.content)
 body_members r (Surrogate d) = database_member r.name ++ diag_members d
 body_members r (Fragment m) = encoding_member r

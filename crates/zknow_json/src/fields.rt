@@ -87,7 +87,7 @@ fn put_in_format(
 }
 
 /// Returns the numbers of a syntax, none where there is no syntax.
-fn arcs_of(direct: &Option<Oid>) -> &[u32]
+pub(crate) fn arcs_of(direct: &Option<Oid>) -> &[u32]
     ensures { result.now ≡ unwrap_or direct.now [] }
 {
     match direct {

@@ -4,6 +4,7 @@
 
 mod encoding;
 mod fields;
+mod holdings;
 pub mod laws;
 mod line;
 mod lines;

@@ -2,7 +2,7 @@
 ghost use Rattle.std.specs.Prelude.{◌≡◌, ◌++◌, ◌∷◌, [], IfOk, OnOk, string_bytes};
 ghost use Rattle.std.specs.Str.{is_utf8};
 ghost use Rattle.json.specs.Token.{begin_object, end_object, begin_array, end_array, key};
-ghost use Rattle.zknow_json.specs.Members.{text_member, natural_member, integer_member, octets_member, octets_unless_utf8, received_member, line};
+ghost use Rattle.zknow_json.specs.Members.{text_member, natural_member, integer_member, boolean_member, octets_member, octets_unless_utf8, received_member, line};
 
 use base64::engine::general_purpose::STANDARD;
 use json::Writer;
@@ -100,6 +100,15 @@ impl Line {
     {
         self.writer.key(name)?;
         self.writer.i64(number)
+    }
+
+    /// Writes a member with `true` or `false`.
+    #[tactic(auto, unfolding(crate::specs::Members::boolean_member))]
+    pub(crate) fn put_boolean(&mut self, name: &str, value: bool) -> Result<(), AllocError>
+        ensures { OnOk result (self.new ≡ self.old ++ boolean_member name.now value) }
+    {
+        self.writer.key(name)?;
+        self.writer.boolean(value)
     }
 
     /// Writes a member with octets, in base64.

@@ -6,7 +6,7 @@ ghost use Rattle.zknow.specs.Known.{IsKnownOf, records_at};
 ghost use Rattle.zknow_json.specs.Records.{syntax_member, database_member, encoding_member, contents_member, body_kind, body_members, record_object, row_head, record_line, conflict_line, records_line, row_line};
 
 use crate::encoding::encode;
-use crate::fields::put_fields;
+use crate::holdings::put_read;
 use crate::line::Line;
 use crate::sets::{put_diag, put_head};
 use bytes::Bytes;
@@ -81,7 +81,7 @@ fn put_body(alloc: Global, record: &Record, line: &mut Line) -> Result<(), Alloc
         RecordBody::Retrieval(external) => {
             put_syntax(alloc, &external.direct, line)?;
             put_database(&record.name, line)?;
-            put_fields(alloc, external, line)?;
+            put_read(alloc, external, line)?;
             put_contents(alloc, record, external, line)
         }
         RecordBody::Surrogate(diag) => {

@@ -19,7 +19,7 @@ use Rattle.zknow.specs.Tables.Keys.{row_cmp, row_total, row_exact}
 use Rattle.zknow.proofs.ListTheory.Ascending.{ascending_members}
 use Rattle.zknow.proofs.ListTheory.Places.{image_found, records_are, conflict_is}
 use Rattle.zknow_records.specs.declared.left_out.LeftOut.{LeftOut}
-use Rattle.zknow_records.specs.Records.{is_wanted, body_octets, own_octets, is_surrogate, is_diagnostic, is_other, is_conflict, taken, row_records, rows, all_taken, referenced}
+use Rattle.zknow_records.specs.Records.{opac_in, written_in, external_octets, is_wanted, own_octets, is_surrogate, is_diagnostic, is_other, is_conflict, taken, row_records, rows, all_taken, referenced}
 use Rattle.zknow_records.specs.RecordLaws.{IsTakenRecord, count_written}
 
 -- ---- members of lists of lists
@@ -155,9 +155,13 @@ with_octets : (b : Bool) → cond b 1 0 + cond false 1 0 + cond (not b && not fa
 with_octets true = refl
 with_octets false = refl
 
-one_of_three : (b : RecordBody) → cond (is_some (body_octets b)) 1 0 + cond (is_surrogate b) 1 0
-    + cond (not (is_some (body_octets b)) && not (is_surrogate b)) 1 0 ≡ 1
-one_of_three (Retrieval v) = with_octets (is_some (body_octets (Retrieval v)))
+-- the octets that are written for what a target sent
+abbrev octets_in : RecordBody → Option (List ℕ)
+octets_in b = external_octets (written_in b (opac_in b))
+
+one_of_three : (b : RecordBody) → cond (is_some (octets_in b)) 1 0 + cond (is_surrogate b) 1 0
+    + cond (not (is_some (octets_in b)) && not (is_surrogate b)) 1 0 ≡ 1
+one_of_three (Retrieval v) = with_octets (is_some (octets_in (Retrieval v)))
 one_of_three (Surrogate d) = refl
 one_of_three (Fragment m) = refl
 

@@ -11,6 +11,6 @@ pub struct LeftOut {
     /// How many surrogate diagnostics were taken. Each takes the place of a record (Z39.50-2003, 4.1: NamePlusRecord).
     pub diagnostics: u64,
     /// How many other records without octets of their own were taken: fragments, and EXTERNALs with anything but a
-    /// syntax and octets.
+    /// syntax and octets. An OPAC record is one of these if its bibliographic record is, or is not there.
     pub others: u64,
 }

@@ -18,8 +18,10 @@ fn known_in<'a>(knowledge: &'a Knowledge, row: &RowKey) -> Known<'a, Record>
     knowledge.at(row.target, row.set, row.position)
 }
 
-/// Appends the records that are not of another syntax than the one asked for.
+/// Appends the records that are not of another syntax than the one asked for. Returns `AllocError` if no memory is
+/// found.
 fn take_wanted<'a>(
+    alloc: Global,
     asked: Option<&Oid>,
     records: &'a [Record],
     found: &mut Vec<&'a Record>,
@@ -28,7 +30,7 @@ fn take_wanted<'a>(
         ≡ referenced found.old.items ++ filter (is_wanted (option_copied asked.entry)) records.now) }
 {
     for record in records {
-        if is_wanted(asked, record) {
+        if is_wanted(alloc, asked, record)? {
             found.push(record)?;
         }
     }
@@ -37,6 +39,7 @@ fn take_wanted<'a>(
 
 /// Appends the records that are taken from a row. Returns `AllocError` if no memory is found.
 fn take_row<'a>(
+    alloc: Global,
     knowledge: &'a Knowledge,
     row: &RowKey,
     asked: Option<&Oid>,
@@ -49,10 +52,10 @@ fn take_row<'a>(
 {
     match known_in(knowledge, row) {
         Known::Nothing => Ok(()),
-        Known::One(record) => take_wanted(asked, std::slice::from_ref(record), found),
+        Known::One(record) => take_wanted(alloc, asked, std::slice::from_ref(record), found),
         Known::Conflict(records) => {
             if conflicts {
-                take_wanted(asked, records, found)
+                take_wanted(alloc, asked, records, found)
             } else {
                 Ok(())
             }
@@ -73,7 +76,7 @@ pub(crate) fn take_rows<'a>(
 {
     let mut found = Vec::new(alloc);
     for row in rows {
-        take_row(knowledge, row, asked, conflicts, &mut found)?;
+        take_row(alloc, knowledge, row, asked, conflicts, &mut found)?;
     }
     Ok(found)
 }

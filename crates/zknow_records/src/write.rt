@@ -5,7 +5,7 @@ ghost use Rattle.std.specs.Option.{option_copied};
 ghost use Rattle.zknow_records.specs.Records.{referenced, record_octets, is_unwanted, is_diagnostic, is_other, syntaxes_left, conflicts_left, rows, records_octets, left_out};
 
 use crate::left_out::LeftOut;
-use crate::one_record::{is_diagnostic, is_other, is_wanted, own_octets};
+use crate::one_record::{is_diagnostic, is_other, is_wanted, opac_in, own_octets};
 use crate::taken::{count_conflicts, take_rows};
 use std::alloc::{AllocError, Global};
 use zapdu::Record;
@@ -13,21 +13,22 @@ use zber::Oid;
 use zknow::{Knowledge, RowKey};
 
 /// Appends the octets of a record, if it has octets of its own.
-fn put_record(record: &Record, out: &mut Vec<u8>) -> Result<(), AllocError>
+fn put_record(alloc: Global, record: &Record, out: &mut Vec<u8>) -> Result<(), AllocError>
     ensures { OnOk result (out.new.items ≡ out.old.items ++ record_octets «record».now) }
 {
-    match own_octets(record) {
+    let opac = opac_in(alloc, record)?;
+    match own_octets(record, &opac) {
         Some(octets) => out.extend_from_slice(octets.as_slice()),
         None => Ok(()),
     }
 }
 
 /// Appends the octets of records.
-fn put_records(taken: &[&Record], out: &mut Vec<u8>) -> Result<(), AllocError>
+fn put_records(alloc: Global, taken: &[&Record], out: &mut Vec<u8>) -> Result<(), AllocError>
     ensures { OnOk result (out.new.items ≡ out.old.items ++ flat_map record_octets (referenced taken.now)) }
 {
     for record in taken {
-        put_record(record, out)?;
+        put_record(alloc, record, out)?;
     }
     Ok(())
 }
@@ -46,29 +47,29 @@ fn count_diagnostics(taken: &[&Record]) -> u64
 }
 
 /// Counts the records that have no octets and are no surrogate diagnostics.
-fn count_others(taken: &[&Record]) -> u64
-    ensures { result ≡ count_by is_other (referenced taken.now) }
+fn count_others(alloc: Global, taken: &[&Record]) -> Result<u64, AllocError>
+    ensures { IfOk result (λ n. n ≡ count_by is_other (referenced taken.now)) }
 {
     let mut count = 0;
     for record in taken {
-        if is_other(record) {
+        if is_other(alloc, record)? {
             count += 1;
         }
     }
-    count
+    Ok(count)
 }
 
 /// Counts the records of another syntax than the one asked for.
-fn count_unwanted(asked: Option<&Oid>, taken: &[&Record]) -> u64
-    ensures { result ≡ count_by (is_unwanted (option_copied asked.entry)) (referenced taken.now) }
+fn count_unwanted(alloc: Global, asked: Option<&Oid>, taken: &[&Record]) -> Result<u64, AllocError>
+    ensures { IfOk result (λ n. n ≡ count_by (is_unwanted (option_copied asked.entry)) (referenced taken.now)) }
 {
     let mut count = 0;
     for record in taken {
-        if !is_wanted(asked, record) {
+        if !is_wanted(alloc, asked, record)? {
             count += 1;
         }
     }
-    count
+    Ok(count)
 }
 
 /// Counts the records that are left out because of their syntax.
@@ -83,7 +84,7 @@ fn syntaxes_left(
     ensures { IfOk result (λ n. n ≡ syntaxes_left (option_copied asked.entry) conflicts knowledge.now) }
 {
     let all = take_rows(alloc, knowledge, keys, None, conflicts)?;
-    Ok(count_unwanted(asked, &all))
+    count_unwanted(alloc, asked, &all)
 }
 
 /// Counts the conflicts that are left out.
@@ -104,7 +105,8 @@ fn conflicts_left(knowledge: &Knowledge, keys: &[RowKey], conflicts: bool) -> u6
 /// position, they are left out; with `conflicts` all of them are written, in the order of their canonical encodings. If
 /// `syntax` is given, records of another syntax are left out. Only an EXTERNAL with a direct reference, octet-aligned
 /// contents and nothing else has octets to write (Z39.50-2003, 3.6; X.690, 8.18). A surrogate diagnostic has none (4.1:
-/// NamePlusRecord). Returns `AllocError` if no memory is found; nothing is appended.
+/// NamePlusRecord). An OPAC record (Appendix REC: OPACRecord) stands for its bibliographic record: its octets are
+/// written, and its syntax is compared. Returns `AllocError` if no memory is found; nothing is appended.
 pub fn write_records(
     alloc: Global,
     knowledge: &Knowledge,
@@ -120,14 +122,15 @@ pub fn write_records(
     let rows = knowledge.rows()?;
     let taken = take_rows(alloc, knowledge, &rows, syntax, conflicts)?;
     let syntaxes = syntaxes_left(alloc, knowledge, &rows, syntax, conflicts)?;
+    let others = count_others(alloc, &taken)?;
     let left = LeftOut {
         conflicts: conflicts_left(knowledge, &rows, conflicts),
         syntaxes,
         diagnostics: count_diagnostics(&taken),
-        others: count_others(&taken),
+        others,
     };
     let mut octets = Vec::new(alloc);
-    put_records(&taken, &mut octets)?;
+    put_records(alloc, &taken, &mut octets)?;
     out.extend_from_slice(&octets)?;
     Ok(left)
 }

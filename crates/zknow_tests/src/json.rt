@@ -238,6 +238,47 @@ const DIAGNOSTICS: Vector = (
     \":\"KAcGAioEgQF4\"}\n",
 );
 
+// OPAC records: with all fields, octets that are not UTF-8 and records of MARC for holdings; with a call number; the
+// same in another syntax; and an element that is none.
+const COPIES: Vector = (
+    b"\xa4\x06\x80\x04city\xa2\x82\x01`\x80\x01\x00\x81\x01\x01\x82\x01\x010\x82\x01S\xa1\x82\x01O\xa1\x82\x01K(\x82\
+    \x01G\x06\x07*\x86H\xce\x13\x05f\xa0\x82\x01:0\x82\x016\xa1K\x06\x07*\x86H\xce\x13\x05\x0a\x81@00064nam a2200037\
+    \x20a 4500245002600000\x1e10\x1faDune /\x1fcFrank Herbert\x1e\x1d\xa2\x81\xe6\xa2\x81\xbf\x81\x01v\x82\x014\x83\
+    \x02zu\x84\x010\x85\x018\x86\x014\x87\x06261201\x88\x03DLC\x89\x04caf\xe9\x8a\x06Stacks\x8b\x04QA76\x8c\x07shelf\
+    \x202\x8d\x012\x8e\x06\"note\"\x8f\x05print\x90\x04free\x91\x05v.1-2\xb2\x1b0\x17\x81\x03v.1\x82\x041965\x83\x0a\
+    v.1 (1965)0\x00\xb3D07\x81\x01\x00\x82\x0a2026-12-01\x83\x03ILL\x84\x04hall\x85\x0239\x86\x01\xff\x87\x01\x00\
+    \x88\x03v.1\x89\x04DUNE\x8a\x06repair0\x09\x81\x01\xff\x86\x01\x00\x87\x01\xff\xa1\x0f\x06\x07*\x86H\xce\x13\x05\
+    \x0a\x81\x04marc\xa1\x11\x06\x07*\x86H\xce\x13\x05\x0a\xa0\x06\x04\x04part\xa2(\x80\x01\x00\x81\x01\x01\x82\x01\
+    \x020\x1d\xa1\x1b\xa1\x19(\x17\x06\x07*\x86H\xce\x13\x05f\xa0\x0c0\x0a\xa2\x08\xa2\x06\x8b\x04QA76\xa2(\x80\x01\
+    \x00\x81\x01\x01\x82\x01\x030\x1d\xa1\x1b\xa1\x19(\x17\x06\x07*\x86H\xce\x13\x05i\xa0\x0c0\x0a\xa2\x08\xa2\x06\
+    \x8b\x04QA76\xa2,\x80\x01\x00\x81\x01\x01\x82\x01\x040!\xa1\x1f\xa1\x1d(\x1b\x06\x07*\x86H\xce\x13\x05f\xa0\x100\
+    \x0e\xa2\x0c\xa2\x0a\xb3\x080\x06\x81\x01\xff\x86\x01\x00",
+    "\
+    {\"type\":\"record\",\"catalogue\":\"city\",\"set\":1,\"position\":1,\"syntax\":\"1.2.840.10003.5.102\",\"ti\
+    tle\":\"Dune\",\"author\":\"Frank Herbert\",\"holdings\":[{\"typeOfRecord\":\"v\",\"encodingLevel\":\"4\",\"\
+    format\":\"zu\",\"receiptAcqStatus\":\"0\",\"generalRetention\":\"8\",\"completeness\":\"4\",\"dateOfReport\
+    \":\"261201\",\"nucCode\":\"DLC\",\"localLocation\":\"caf\u{fffd}\",\"localLocationOctets\":\"Y2Fm6Q==\",\"s\
+    helvingLocation\":\"Stacks\",\"callNumber\":\"QA76\",\"shelvingData\":\"shelf 2\",\"copyNumber\":\"2\",\"pub\
+    licNote\":\"\\\"note\\\"\",\"reproductionNote\":\"print\",\"termsUseRepro\":\"free\",\"enumAndChron\":\"v.1-\
+    2\",\"volumes\":[{\"enumeration\":\"v.1\",\"chronology\":\"1965\",\"enumAndChron\":\"v.1 (1965)\"},{}],\"cir\
+    culationData\":[{\"availableNow\":false,\"availabilityDate\":\"2026-12-01\",\"availableThru\":\"ILL\",\"rest\
+    rictions\":\"hall\",\"itemId\":\"39\",\"renewable\":true,\"onHold\":false,\"enumAndChron\":\"v.1\",\"midspin\
+    e\":\"DUNE\",\"temporaryLocation\":\"repair\"},{\"availableNow\":true,\"renewable\":false,\"onHold\":true}]}\
+    ,{\"marcHoldingsRecord\":\"bWFyYw==\"},{\"encoding\":\"oREGByqGSM4TBQqgBgQEcGFydA==\"}],\"encoding\":\"MIIBU\
+    6GCAU+hggFLKIIBRwYHKoZIzhMFZqCCATowggE2oUsGByqGSM4TBQqBQDAwMDY0bmFtIGEyMjAwMDM3IGEgNDUwMDI0NTAwMjYwMDAwMB4xM\
+    B9hRHVuZSAvH2NGcmFuayBIZXJiZXJ0Hh2igeaigb+BAXaCATSDAnp1hAEwhQE4hgE0hwYyNjEyMDGIA0RMQ4kEY2Fm6YoGU3RhY2tziwRRQ\
+    Tc2jAdzaGVsZiAyjQEyjgYibm90ZSKPBXByaW50kARmcmVlkQV2LjEtMrIbMBeBA3YuMYIEMTk2NYMKdi4xICgxOTY1KTAAs0QwN4EBAIIKM\
+    jAyNi0xMi0wMYMDSUxMhARoYWxshQIzOYYB/4cBAIgDdi4xiQREVU5FigZyZXBhaXIwCYEB/4YBAIcB/6EPBgcqhkjOEwUKgQRtYXJjoREGB\
+    yqGSM4TBQqgBgQEcGFydA==\"}\n\
+    {\"type\":\"record\",\"catalogue\":\"city\",\"set\":1,\"position\":2,\"syntax\":\"1.2.840.10003.5.102\",\"ho\
+    ldings\":[{\"callNumber\":\"QA76\"}],\"encoding\":\"MB2hG6EZKBcGByqGSM4TBWagDDAKogiiBosEUUE3Ng==\"}\n\
+    {\"type\":\"record\",\"catalogue\":\"city\",\"set\":1,\"position\":3,\"syntax\":\"1.2.840.10003.5.105\",\"en\
+    coding\":\"MB2hG6EZKBcGByqGSM4TBWmgDDAKogiiBosEUUE3Ng==\"}\n\
+    {\"type\":\"record\",\"catalogue\":\"city\",\"set\":1,\"position\":4,\"syntax\":\"1.2.840.10003.5.102\",\"en\
+    coding\":\"MCGhH6EdKBsGByqGSM4TBWagEDAOogyiCrMIMAaBAf+GAQA=\"}\n\
+    ",
+);
+
 // Names, and nothing that is known.
 const NOTHING: Vector = (b"\xa4\x06\x80\x01a\x80\x01b", "");
 
@@ -282,6 +323,7 @@ fn whole_texts(rt: HostRuntime) -> Result<(), Fail> {
         RECORDS,
         CONFLICTS,
         FIELDS,
+        COPIES,
         TEXTS,
         DIAGNOSTICS,
         NOTHING,

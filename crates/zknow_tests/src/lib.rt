@@ -23,3 +23,5 @@ mod shuffled;
 mod stops;
 #[cfg(test)]
 mod titles;
+#[cfg(test)]
+mod whole;

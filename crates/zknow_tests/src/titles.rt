@@ -9,10 +9,10 @@ use zknow_stops::Stop;
 use zknow_titles::print_titles;
 
 // A saved file, and the view that is wanted.
-type Vector = (&'static [u8], &'static str);
+pub(crate) type Vector = (&'static [u8], &'static str);
 
 // Three catalogues: one has records, of which two differ and one is not shown; two refuse. A fourth has a record.
-const EXAMPLE: Vector = (
+pub(crate) const EXAMPLE: Vector = (
     b"\xa4*\x80\x0ccity library\x80\x06county\x80\x05abbey\x80\x0bold library\xa0\x09\x80\x01\x00\x81\x01\
     \x01\x82\x01\x18\xa1\x06\x80\x01\x01\x81\x01\x01\xa1\x06\x80\x01\x02\x81\x01\x00\xa2\x81\xa6\x80\x01\
     \x00\x81\x01\x01\x82\x01\x010\x81\x9a\xa1\x81\x97\xa1\x81\x94(\x81\x91\x06\x07*\x86H\xce\x13\x05\n\
@@ -41,7 +41,7 @@ const EXAMPLE: Vector = (
 );
 
 // Records of each syntax, and what is none: text with controls, in two pieces, and long; MARC without a title.
-const SYNTAXES: Vector = (
+pub(crate) const SYNTAXES: Vector = (
     b"\xa4\x03\x80\x01a\xa2I\x80\x01\x00\x81\x01\x01\x82\x01\x010>\xa1<\xa1:(8\x06\x07*\x86H\xce\x13\x05e\
     \xa0-\x1b+  Title:\n  Dune \x1b[2J\x0d\n\nAuthor: F. Herbert\n \xa2\"\x80\x01\x00\x81\x01\x01\x82\
     \x01\x020\x17\xa1\x15\xa1\x13(\x11\x06\x07*\x86H\xce\x13\x05e\x81\x06\xc3\xa9t\xc3\xa9\n\xa2/\x80\
@@ -127,7 +127,7 @@ const DIAGNOSTICS: Vector = (
 
 // OPAC records with their copies: of one record, of two that differ, without a bibliographic record; and an element
 // that is none.
-const COPIES: Vector = (
+pub(crate) const COPIES: Vector = (
     b"\xa4\x06\x80\x04city\xa0\x09\x80\x01\x00\x81\x01\x01\x82\x01\x05\xa2\x81\xfb\x80\x01\x00\x81\x01\x01\x82\x01\
     \x010\x81\xef\xa1\x81\xec\xa1\x81\xe9(\x81\xe6\x06\x07*\x86H\xce\x13\x05f\xa0\x81\xda0\x81\xd7\xa1h\x06\x07*\
     \x86H\xce\x13\x05\x0a\x81]00093nam  22000491a 4500245003400000260000900034\x1e10\x1faDune messiah /\x1fcFran\

@@ -10,13 +10,15 @@ use Rattle.zknow.specs.declared.fact.Fact.{Fact}
 use Rattle.zknow.specs.declared.tables.keys.RowKey.{RowKey}
 use Rattle.zknow.specs.declared.tables.keys.SetKey.{SetKey}
 use Rattle.zknow_stops.specs.declared.stop.Stop.{Stop}
+use Rattle.zknow_titles.specs.declared.wholes.Extent.{Extent}
+use Rattle.zknow_titles.specs.declared.wholes.Extent.TheVariants.{Title, Whole}
 use Rattle.zknow_titles.specs.Blocks.{block_line}
 use Rattle.zknow_titles.specs.Heads.{front_count, head_lines}
-use Rattle.zknow_titles.specs.Laws.{AreQuiet, QuietLaw}
+use Rattle.zknow_titles.specs.Laws.{AreQuiet, QuietLaw, QuietRecordsLaw}
 use Rattle.zknow_titles.specs.Lines.{ended}
 use Rattle.zknow_titles.specs.Names.{shown_names}
 use Rattle.zknow_titles.specs.Rows.{widths, row_lines}
-use Rattle.zknow_titles.specs.Titles.{between, titles, sets_of, rows_of}
+use Rattle.zknow_titles.specs.Titles.{between, view, titles, whole_records, sets_of, rows_of}
 
 -- ---- the line behind the head
 
@@ -62,10 +64,18 @@ quiet_head shown facts target (None ∷ stops) sets h =
     ∙ ap (map (block_line shown facts)) (take-append-drop n sets)
 quiet_head shown facts target (Some s ∷ stops) sets h = absurd (true≢false (All-head IsNone (Some s) stops h))
 
-pub quiet_view : QuietLaw
-unfolding titles
-quiet_view names stops facts h =
+quiet_either_way : (extent : Extent) (names : List (List ℕ)) (stops : List (Option Stop)) (facts : List Fact)
+    → AreQuiet stops → view extent names stops facts ≡ view extent names [] facts
+quiet_either_way extent names stops facts h =
     let shown = shown_names names in
     let rows = rows_of facts in
-    ap (λ head. ended (head ++ between head rows ++ flat_map (row_lines (widths shown rows) shown facts) rows))
+    ap (λ head. ended (head ++ between head rows ++ flat_map (row_lines extent (widths shown rows) shown facts) rows))
     (quiet_head shown facts 0 stops (sets_of facts) h)
+
+pub quiet_view : QuietLaw
+unfolding titles
+quiet_view names stops facts h = quiet_either_way Title names stops facts h
+
+pub quiet_records : QuietRecordsLaw
+unfolding whole_records
+quiet_records names stops facts h = quiet_either_way Whole names stops facts h

@@ -3,4 +3,5 @@ pub mod HeadTheory
 pub mod NameTheory
 pub mod SafeTexts
 pub mod SafeTheory
+pub mod SafeWholes
 pub mod Widths

@@ -172,3 +172,24 @@ dotted_safe [] = nothing_safe
 dotted_safe (x ∷ xs) =
     both_safe (numeral_safe x)
     (flat_safe (λ y. 46 ∷ [] ++ numeral y) (λ y. both_safe (literal_safe (46 ∷ []) refl) (numeral_safe y)) xs)
+
+-- ---- lists of texts
+
+pub none_safe : All IsSafeText []
+none_safe = All-nil IsSafeText
+
+pub one_safe : {t : List ℕ} → IsSafeText t → All IsSafeText (t ∷ [])
+one_safe {t} s = All-cons IsSafeText t [] s none_safe
+
+pub all_either : (b : Bool) (xs ys : List (List ℕ)) → All IsSafeText xs → All IsSafeText ys → All IsSafeText (cond b xs ys)
+all_either true xs ys first then = first
+all_either false xs ys first then = then
+
+pub all_map : {X : Type 0} (f : X → List ℕ) → ((x : X) → IsSafeText (f x)) → (xs : List X) → All IsSafeText (map f xs)
+all_map f each [] = none_safe
+all_map f each (x ∷ xs) = All-cons IsSafeText (f x) (map f xs) (each x) (all_map f each xs)
+
+pub all_flat : {X : Type 0} (f : X → List (List ℕ)) → ((x : X) → All IsSafeText (f x)) → (xs : List X)
+    → All IsSafeText (flat_map f xs)
+all_flat f each [] = none_safe
+all_flat f each (x ∷ xs) = All-append IsSafeText (f x) (flat_map f xs) (each x) (all_flat f each xs)

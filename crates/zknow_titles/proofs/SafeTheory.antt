@@ -41,6 +41,8 @@ use Rattle.zknow_stops.specs.declared.stop.Stop.{Stop}
 use Rattle.zknow_stops.specs.Details.{detail_words, is_unreached}
 use Rattle.zknow_stops.proofs.Words.{words_printable}
 use Rattle.zknow_titles.specs.declared.rows.Widths.{Widths}
+use Rattle.zknow_titles.specs.declared.wholes.Extent.{Extent}
+use Rattle.zknow_titles.specs.declared.wholes.Extent.TheVariants.{Title, Whole}
 use Rattle.zknow_titles.specs.Blocks.{joined_behind, joined_by, count_part, shown_count, behind_colon, heading, failure_part, search_text, request_text, block_parts, block_line}
 use Rattle.zknow_titles.specs.Columns.{char_columns, fitting, widest_cut, clipped, width, padded}
 use Rattle.zknow_titles.specs.Conditions.{condition_words}
@@ -49,10 +51,12 @@ use Rattle.zknow_titles.specs.Entries.{EntryText, plain, syntax_text, counted_oc
 use Rattle.zknow_titles.specs.Heads.{stop_line, then_words, if_last, lines_then, stopped_lines, target_lines, front_count, head_lines}
 use Rattle.zknow_titles.specs.Laws.{IsSafeView}
 use Rattle.zknow_titles.specs.Names.{shown_names, name_or_number, label}
-use Rattle.zknow_titles.specs.Rows.{row_name, position_width, row_head, row_entry, further_entry, copy_row, copy_rows, further_lines, several, record_lines, row_lines, widths}
+use Rattle.zknow_titles.specs.Rows.{row_name, position_width, row_head, row_entry, further_entry, below_row, copy_rows, below_rows, further_lines, several, record_lines, row_lines, widths}
 use Rattle.zknow_titles.specs.Sutrs.{behind_gap, squeezed, shortened, sutrs_line}
-use Rattle.zknow_titles.specs.Titles.{between, title_lines, titles, sets_of, rows_of}
-use Rattle.zknow_titles.proofs.SafeTexts.{characters_safe, safe_characters, space_safe, nothing_safe, both_safe, either_safe, printable_safe, literal_safe, spaces_safe, ellipsis_safe, decimal_safe, signed_safe, dotted_safe}
+use Rattle.zknow_titles.specs.Titles.{between, title_lines, view, titles, whole_records, sets_of, rows_of}
+use Rattle.zknow_titles.specs.Wholes.{whole_lines}
+use Rattle.zknow_titles.proofs.SafeTexts.{characters_safe, safe_characters, space_safe, nothing_safe, both_safe, either_safe, printable_safe, literal_safe, spaces_safe, ellipsis_safe, decimal_safe, signed_safe, dotted_safe, none_safe, one_safe, all_either, all_map, all_flat}
+use Rattle.zknow_titles.proofs.SafeWholes.{whole_lines_safe}
 
 -- ---- diagnostics
 
@@ -218,25 +222,6 @@ entry_safe r = with_safe r (opac_of r)
 
 -- ---- lists of texts
 
-none_safe : All IsSafeText []
-none_safe = All-nil IsSafeText
-
-one_safe : {t : List ℕ} → IsSafeText t → All IsSafeText (t ∷ [])
-one_safe {t} s = All-cons IsSafeText t [] s none_safe
-
-all_either : (b : Bool) (xs ys : List (List ℕ)) → All IsSafeText xs → All IsSafeText ys → All IsSafeText (cond b xs ys)
-all_either true xs ys first then = first
-all_either false xs ys first then = then
-
-all_map : {X : Type 0} (f : X → List ℕ) → ((x : X) → IsSafeText (f x)) → (xs : List X) → All IsSafeText (map f xs)
-all_map f each [] = none_safe
-all_map f each (x ∷ xs) = All-cons IsSafeText (f x) (map f xs) (each x) (all_map f each xs)
-
-all_flat : {X : Type 0} (f : X → List (List ℕ)) → ((x : X) → All IsSafeText (f x)) → (xs : List X)
-    → All IsSafeText (flat_map f xs)
-all_flat f each [] = none_safe
-all_flat f each (x ∷ xs) = All-append IsSafeText (f x) (flat_map f xs) (each x) (all_flat f each xs)
-
 behind_safe : (separator : List ℕ) (ts : List (List ℕ)) → IsSafeText separator → All IsSafeText ts
     → IsSafeText (joined_behind separator ts)
 behind_safe separator [] s h = nothing_safe
@@ -370,10 +355,10 @@ further_safe : (w : Widths) (e : EntryText) → IsSafeEntry e → IsSafeText (fu
 further_safe w e s = both_safe (both_safe (both_safe (spaces_safe 6) (spaces_safe w.position)) (spaces_safe w.name))
     (text_safe e s)
 
-all_copies : (w : Widths) (lines : List (List ℕ)) → All IsSafeText lines → All IsSafeText (map (copy_row w) lines)
+all_copies : (w : Widths) (lines : List (List ℕ)) → All IsSafeText lines → All IsSafeText (map (below_row w) lines)
 all_copies w [] h = none_safe
 all_copies w (l ∷ lines) h =
-    All-cons IsSafeText (copy_row w l) (map (copy_row w) lines)
+    All-cons IsSafeText (below_row w l) (map (below_row w) lines)
     (further_safe w (plain l) (plain_safe (All-head IsSafeText l lines h)))
     (all_copies w lines (All-tail IsSafeText l lines h))
 
@@ -381,23 +366,30 @@ copies_safe : (w : Widths) (o : Option OpacRecord) → All IsSafeText (copy_rows
 copies_safe w None = none_safe
 copies_safe w (Some o) = all_copies w (copies_of (Some o)) (lines_are_safe o)
 
-further_lines_safe : (w : Widths) (r : Record) → All IsSafeText (further_lines w r)
-further_lines_safe w r =
-    All-cons IsSafeText (further_entry w (entry r)) (copy_rows w (opac_of r)) (further_safe w (entry r) (entry_safe r))
-    (copies_safe w (opac_of r))
+below_safe : (extent : Extent) (w : Widths) (r : Record) (o : Option OpacRecord) → All IsSafeText (below_rows extent w r o)
+below_safe extent w r o =
+    All-append IsSafeText (map (below_row w) (whole_lines extent r o)) (copy_rows w o)
+    (all_copies w (whole_lines extent r o) (whole_lines_safe extent r o)) (copies_safe w o)
 
-lines_safe : (w : Widths) (head : List ℕ) (records : List Record) → IsSafeText head
-    → All IsSafeText (record_lines w head records)
-lines_safe w head [] s = none_safe
-lines_safe w head (r ∷ []) s =
-    All-cons IsSafeText (head ++ row_entry (entry r)) (copy_rows w (opac_of r)) (both_safe s (row_entry_safe r))
-    (copies_safe w (opac_of r))
-lines_safe w head (r ∷ q ∷ rest) s =
+-- ---- the lines of a row
+
+further_lines_safe : (extent : Extent) (w : Widths) (r : Record) → All IsSafeText (further_lines extent w r)
+further_lines_safe extent w r =
+    All-cons IsSafeText (further_entry w (entry r)) (below_rows extent w r (opac_of r))
+    (further_safe w (entry r) (entry_safe r)) (below_safe extent w r (opac_of r))
+
+lines_safe : (extent : Extent) (w : Widths) (head : List ℕ) (records : List Record) → IsSafeText head
+    → All IsSafeText (record_lines extent w head records)
+lines_safe extent w head [] s = none_safe
+lines_safe extent w head (r ∷ []) s =
+    All-cons IsSafeText (head ++ row_entry (entry r)) (below_rows extent w r (opac_of r)) (both_safe s (row_entry_safe r))
+    (below_safe extent w r (opac_of r))
+lines_safe extent w head (r ∷ q ∷ rest) s =
     let count = length (r ∷ q ∷ rest) in
-    All-cons IsSafeText (several head count) (flat_map (further_lines w) (r ∷ q ∷ rest))
+    All-cons IsSafeText (several head count) (flat_map (further_lines extent w) (r ∷ q ∷ rest))
     (both_safe (both_safe (both_safe s (literal_safe (codes "      ") refl)) (decimal_safe count))
     (literal_safe (codes " different records") refl))
-    (all_flat (further_lines w) (further_lines_safe w) (r ∷ q ∷ rest))
+    (all_flat (further_lines extent w) (further_lines_safe extent w) (r ∷ q ∷ rest))
 
 head_safe : (w : Widths) (names : List (List ℕ)) (k : RowKey) → IsSafeText (row_head w (shown_names names) k)
 head_safe w names k =
@@ -407,30 +399,40 @@ head_safe w names k =
     both_safe (both_safe (both_safe (both_safe (both_safe gap (spaces_safe (w.position - position_width k)))
     (signed_safe k.position)) gap) name) gap
 
-row_safe : (w : Widths) (names : List (List ℕ)) (facts : List Fact) (k : RowKey)
-    → All IsSafeText (row_lines w (shown_names names) facts k)
-row_safe w names facts k =
-    lines_safe w (row_head w (shown_names names) k) (records_at k.target k.set k.position facts) (head_safe w names k)
+row_safe : (extent : Extent) (w : Widths) (names : List (List ℕ)) (facts : List Fact) (k : RowKey)
+    → All IsSafeText (row_lines extent w (shown_names names) facts k)
+row_safe extent w names facts k =
+    lines_safe extent w (row_head w (shown_names names) k) (records_at k.target k.set k.position facts) (head_safe w names k)
 
 -- ---- the view
 
 between_safe : (head : List (List ℕ)) (rows : List RowKey) → All IsSafeText (between head rows)
 between_safe head rows = all_either (length head == 0 || length rows == 0) _ _ none_safe (one_safe nothing_safe)
 
-title_lines_safe : (names : List (List ℕ)) (stops : List (Option Stop)) (facts : List Fact) (sets : List SetKey)
-    (rows : List RowKey) → All IsSafeText (title_lines (shown_names names) stops facts sets rows)
-title_lines_safe names stops facts sets rows =
+title_lines_safe : (extent : Extent) (names : List (List ℕ)) (stops : List (Option Stop)) (facts : List Fact)
+    (sets : List SetKey) (rows : List RowKey)
+    → All IsSafeText (title_lines extent (shown_names names) stops facts sets rows)
+title_lines_safe extent names stops facts sets rows =
     let w = widths (shown_names names) rows in
     let head = head_lines (shown_names names) facts 0 stops sets in
-    All-append IsSafeText _ (flat_map (row_lines w (shown_names names) facts) rows)
+    All-append IsSafeText _ (flat_map (row_lines extent w (shown_names names) facts) rows)
     (All-append IsSafeText head (between head rows) (targets_safe names facts 0 stops sets) (between_safe head rows))
-    (all_flat (row_lines w (shown_names names) facts) (row_safe w names facts) rows)
+    (all_flat (row_lines extent w (shown_names names) facts) (row_safe extent w names facts) rows)
+
+safe_either_way : (extent : Extent) (names : List (List ℕ)) (stops : List (Option Stop)) (facts : List Fact)
+    → IsSafeView (view extent names stops facts)
+safe_either_way extent names stops facts = record {
+  lines = title_lines extent (shown_names names) stops facts (sets_of facts) (rows_of facts);
+  made = refl;
+  safe = title_lines_safe extent names stops facts (sets_of facts) (rows_of facts);
+}
 
 pub view_is_safe : (names : List (List ℕ)) (stops : List (Option Stop)) (facts : List Fact)
     → IsSafeView (titles names stops facts)
 unfolding titles
-view_is_safe names stops facts = record {
-  lines = title_lines (shown_names names) stops facts (sets_of facts) (rows_of facts);
-  made = refl;
-  safe = title_lines_safe names stops facts (sets_of facts) (rows_of facts);
-}
+view_is_safe names stops facts = safe_either_way Title names stops facts
+
+pub records_are_safe : (names : List (List ℕ)) (stops : List (Option Stop)) (facts : List Fact)
+    → IsSafeView (whole_records names stops facts)
+unfolding whole_records
+records_are_safe names stops facts = safe_either_way Whole names stops facts

@@ -9,7 +9,7 @@ use Rattle.zknow_titles.specs.Columns.{width}
 use Rattle.zknow_titles.specs.Lines.{ended}
 use Rattle.zknow_titles.specs.Names.{shown_names}
 use Rattle.zknow_titles.specs.Rows.{name_column, widths}
-use Rattle.zknow_titles.specs.Titles.{titles, rows_of}
+use Rattle.zknow_titles.specs.Titles.{titles, whole_records, rows_of}
 
 -- lines of safe text, each with a line feed: no other octet below 20, no 7F, UTF-8, and no character that is not safe
 pub record IsSafeView (octets : List ℕ) : Type 0 where
@@ -22,6 +22,12 @@ abbrev pub SafeLaw : Type 0
 SafeLaw =
     (names : List (List ℕ)) (stops : List (Option Stop)) (facts : List Fact) → IsSafeView (titles names stops facts)
 
+-- the same with whole records
+abbrev pub SafeRecordsLaw : Type 0
+SafeRecordsLaw =
+    (names : List (List ℕ)) (stops : List (Option Stop)) (facts : List Fact)
+    → IsSafeView (whole_records names stops facts)
+
 -- ---- stops
 
 -- no target stopped
@@ -33,6 +39,12 @@ abbrev pub QuietLaw : Type 0
 QuietLaw =
     (names : List (List ℕ)) (stops : List (Option Stop)) (facts : List Fact) → AreQuiet stops
     → titles names stops facts ≡ titles names [] facts
+
+-- the same with whole records
+abbrev pub QuietRecordsLaw : Type 0
+QuietRecordsLaw =
+    (names : List (List ℕ)) (stops : List (Option Stop)) (facts : List Fact) → AreQuiet stops
+    → whole_records names stops facts ≡ whole_records names [] facts
 
 -- ---- columns of a terminal
 

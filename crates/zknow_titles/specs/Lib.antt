@@ -11,3 +11,4 @@ pub mod Names
 pub mod Rows
 pub mod Sutrs
 pub mod Titles
+pub mod Wholes

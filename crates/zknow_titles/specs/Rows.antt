@@ -8,9 +8,11 @@ use Rattle.zknow.specs.declared.tables.keys.RowKey.{RowKey}
 use Rattle.zknow.specs.Known.{records_at}
 use Rattle.zopac.specs.declared.opac.OpacRecord.{OpacRecord}
 use Rattle.zknow_titles.specs.declared.rows.Widths.{Widths}
+use Rattle.zknow_titles.specs.declared.wholes.Extent.{Extent}
 use Rattle.zknow_titles.specs.Columns.{width, clipped, padded, spaces}
 use Rattle.zknow_titles.specs.Entries.{EntryText, plain, entry, opac_of, copies_of}
 use Rattle.zknow_titles.specs.Names.{label}
+use Rattle.zknow_titles.specs.Wholes.{whole_lines}
 
 -- a name takes at most 24 columns
 abbrev pub row_name : List (List ℕ) → RowKey → List ℕ
@@ -53,29 +55,34 @@ row_entry e = padded 4 e.year ++ codes "  " ++ e.line
 abbrev pub further_entry : Widths → EntryText → List ℕ
 further_entry w e = spaces 6 ++ spaces w.position ++ spaces w.name ++ row_entry e
 
--- a copy of a record, below its line
-abbrev pub copy_row : Widths → List ℕ → List ℕ
-copy_row w line = further_entry w (plain line)
+-- a line of its own below that of a record
+abbrev pub below_row : Widths → List ℕ → List ℕ
+below_row w line = further_entry w (plain line)
 
 -- the copies of a record
 abbrev pub copy_rows : Widths → Option OpacRecord → List (List ℕ)
-copy_rows w o = map (copy_row w) (copies_of o)
+copy_rows w o = map (below_row w) (copies_of o)
 
--- a further record of a row, below the first line, and its copies
-abbrev pub further_lines : Widths → Record → List (List ℕ)
-further_lines w r = further_entry w (entry r) ∷ copy_rows w (opac_of r)
+-- what stands below the line of a record: the whole record, if it is shown, and its copies
+abbrev pub below_rows : Extent → Widths → Record → Option OpacRecord → List (List ℕ)
+below_rows extent w r o = map (below_row w) (whole_lines extent r o) ++ copy_rows w o
+
+-- a further record of a row, below the first line, and what stands below that
+abbrev pub further_lines : Extent → Widths → Record → List (List ℕ)
+further_lines extent w r = further_entry w (entry r) ∷ below_rows extent w r (opac_of r)
 
 -- how many records a row has, where it has several
 abbrev pub several : List ℕ → ℕ → List ℕ
 several head count = head ++ codes "      " ++ decimal count ++ codes " different records"
 
--- a row: the record and its copies, or how many records there are and then each
-abbrev pub record_lines : Widths → List ℕ → List Record → List (List ℕ)
-record_lines w head [] = []
-record_lines w head (r ∷ []) = (head ++ row_entry (entry r)) ∷ copy_rows w (opac_of r)
-record_lines w head (r ∷ q ∷ rest) =
-    several head (length (r ∷ q ∷ rest)) ∷ flat_map (further_lines w) (r ∷ q ∷ rest)
+-- a row: the record and what stands below it, or how many records there are and then each
+abbrev pub record_lines : Extent → Widths → List ℕ → List Record → List (List ℕ)
+record_lines extent w head [] = []
+record_lines extent w head (r ∷ []) = (head ++ row_entry (entry r)) ∷ below_rows extent w r (opac_of r)
+record_lines extent w head (r ∷ q ∷ rest) =
+    several head (length (r ∷ q ∷ rest)) ∷ flat_map (further_lines extent w) (r ∷ q ∷ rest)
 
 -- the lines of a row, from all records that are known at its position
-abbrev pub row_lines : Widths → List (List ℕ) → List Fact → RowKey → List (List ℕ)
-row_lines w shown facts k = record_lines w (row_head w shown k) (records_at k.target k.set k.position facts)
+abbrev pub row_lines : Extent → Widths → List (List ℕ) → List Fact → RowKey → List (List ℕ)
+row_lines extent w shown facts k =
+    record_lines extent w (row_head w shown k) (records_at k.target k.set k.position facts)

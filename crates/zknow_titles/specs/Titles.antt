@@ -7,6 +7,8 @@ use Rattle.zknow.specs.declared.tables.keys.SetKey.{SetKey}
 use Rattle.zknow.specs.List.Listing.{ascending, block_key_of, row_key_of}
 use Rattle.zknow.specs.Tables.Keys.{set_cmp, row_cmp}
 use Rattle.zknow_stops.specs.declared.stop.Stop.{Stop}
+use Rattle.zknow_titles.specs.declared.wholes.Extent.{Extent}
+use Rattle.zknow_titles.specs.declared.wholes.Extent.TheVariants.{Title, Whole}
 use Rattle.zknow_titles.specs.Heads.{head_lines}
 use Rattle.zknow_titles.specs.Lines.{ended}
 use Rattle.zknow_titles.specs.Names.{shown_names}
@@ -25,11 +27,21 @@ abbrev pub between : {X : Type 0} → List X → List RowKey → List (List ℕ)
 between head rows = if length head == 0 || length rows == 0 then [] else [] ∷ []
 
 -- the lines
-abbrev pub title_lines : List (List ℕ) → List (Option Stop) → List Fact → List SetKey → List RowKey → List (List ℕ)
-title_lines shown stops facts sets rows =
+abbrev pub title_lines : Extent → List (List ℕ) → List (Option Stop) → List Fact → List SetKey → List RowKey
+    → List (List ℕ)
+title_lines extent shown stops facts sets rows =
     head_lines shown facts 0 stops sets ++ between (head_lines shown facts 0 stops sets) rows
-    ++ flat_map (row_lines (widths shown rows) shown facts) rows
+    ++ flat_map (row_lines extent (widths shown rows) shown facts) rows
 
 -- the text that is printed: the lines, each with its line feed
+abbrev pub view : Extent → List (List ℕ) → List (Option Stop) → List Fact → List ℕ
+view extent names stops facts =
+    ended (title_lines extent (shown_names names) stops facts (sets_of facts) (rows_of facts))
+
+-- the view with the title of each record
 unfoldable pub titles : List (List ℕ) → List (Option Stop) → List Fact → List ℕ
-titles names stops facts = ended (title_lines (shown_names names) stops facts (sets_of facts) (rows_of facts))
+titles names stops facts = view Title names stops facts
+
+-- the view with the title of each record, and below it the whole record
+unfoldable pub whole_records : List (List ℕ) → List (Option Stop) → List Fact → List ℕ
+whole_records names stops facts = view Whole names stops facts

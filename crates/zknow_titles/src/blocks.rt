@@ -27,7 +27,7 @@ fn put_behind(separator: &str, texts: &[String], line: &mut String) -> Result<()
 }
 
 /// Appends texts with a separator between each two.
-fn put_joined(separator: &str, texts: &[String], line: &mut String) -> Result<(), AllocError>
+pub fn put_joined(separator: &str, texts: &[String], line: &mut String) -> Result<(), AllocError>
     ensures { OnOk result (string_bytes line.new
         ≡ string_bytes line.old ++ joined_by separator.now (map string_bytes texts.now)) }
 {
@@ -41,7 +41,7 @@ fn put_joined(separator: &str, texts: &[String], line: &mut String) -> Result<()
 }
 
 /// Returns numbers in decimal.
-fn show_numbers(alloc: Global, numbers: &[i64]) -> Result<Vec<String>, AllocError>
+pub fn show_numbers(alloc: Global, numbers: &[i64]) -> Result<Vec<String>, AllocError>
     ensures { IfOk result (λ shown. map string_bytes shown.items ≡ map signed_decimal numbers.now) }
 {
     let mut shown = Vec::new(alloc);
@@ -53,7 +53,7 @@ fn show_numbers(alloc: Global, numbers: &[i64]) -> Result<Vec<String>, AllocErro
 }
 
 /// Returns the counts of a set that are known.
-fn counts_of<'a>(knowledge: &'a Knowledge, key: &SetKey) -> &'a [i64]
+pub fn counts_of<'a>(knowledge: &'a Knowledge, key: &SetKey) -> &'a [i64]
     ensures { result.now ≡ counts_at key.now.target key.now.set knowledge.now }
 {
     match knowledge.count(key.target, key.set) {
@@ -76,7 +76,7 @@ fn known_at<'a>(
 }
 
 /// Returns the records that are known at a position of a set.
-pub(crate) fn records_of<'a>(
+pub fn records_of<'a>(
     knowledge: &'a Knowledge,
     target: u32,
     set: u32,
@@ -124,7 +124,7 @@ fn count_shown_at(knowledge: &Knowledge, key: &SetKey, positions: &[i64]) -> usi
 }
 
 /// Counts the positions of a set at which a record is shown.
-fn count_shown(knowledge: &Knowledge, key: &SetKey) -> Result<usize, AllocError>
+pub fn count_shown(knowledge: &Knowledge, key: &SetKey) -> Result<usize, AllocError>
     ensures { IfOk result (λ count. count ≡ shown_count knowledge.now key.now.target key.now.set) }
 {
     let positions = knowledge.positions(key.target, key.set)?;
@@ -190,7 +190,7 @@ fn heading(set: u32, failed: bool) -> &'static str
 }
 
 /// Appends the failure of a search and its diagnostics, where there is any of these.
-fn put_failure(
+pub fn put_failure(
     alloc: Global,
     set: u32,
     failed: bool,
@@ -229,7 +229,7 @@ fn put_search_text(
 }
 
 /// Returns the diagnostics of a search in words.
-fn show_search(alloc: Global, diags: &[(i64, &DiagRec)]) -> Result<Vec<String>, AllocError>
+pub fn show_search(alloc: Global, diags: &[(i64, &DiagRec)]) -> Result<Vec<String>, AllocError>
     ensures { IfOk result (λ texts. map string_bytes texts.items ≡ flat_map search_text (referenced_pairs diags.now)) }
 {
     let mut texts = Vec::new(alloc);
@@ -262,7 +262,7 @@ fn put_request_text(
 }
 
 /// Appends the diagnostics of requests for records.
-fn put_requests(
+pub fn put_requests(
     alloc: Global,
     diags: &[(i64, &DiagRec)],
     parts: &mut Vec<String>,

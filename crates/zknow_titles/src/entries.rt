@@ -17,7 +17,7 @@ use zopac::{OpacRecord, PartError, read_opac};
 /// The syntax of UNIMARC.
 const UNIMARC: [u32; 6] = [1, 2, 840, 10003, 5, 1];
 /// The syntax of SUTRS.
-const SUTRS: [u32; 6] = [1, 2, 840, 10003, 5, 101];
+pub(crate) const SUTRS: [u32; 6] = [1, 2, 840, 10003, 5, 101];
 /// The syntax of XML.
 const XML: [u32; 7] = [1, 2, 840, 10003, 5, 109, 10];
 /// The syntax of OPAC.
@@ -27,11 +27,11 @@ const SYNTAXES: [u32; 5] = [1, 2, 840, 10003, 5];
 
 /// What is shown of a record.
 #[derive(Drop)]
-pub(crate) struct Entry {
+pub struct Entry {
     /// The year, empty where there is none.
-    pub(crate) year: String,
+    pub year: String,
     /// The text.
-    pub(crate) line: String,
+    pub line: String,
 }
 
 /// Returns a text without a year.
@@ -65,7 +65,7 @@ fn counted(alloc: Global, text: &str, count: usize) -> Result<Entry, AllocError>
 }
 
 /// Returns the numbers of a syntax, none where there is no syntax.
-fn arcs_of(direct: &Option<Oid>) -> &[u32]
+pub(crate) fn arcs_of(direct: &Option<Oid>) -> &[u32]
     ensures { result.now ≡ unwrap_or direct.now [] }
 {
     match direct {
@@ -171,7 +171,7 @@ fn octets_entry(alloc: Global, direct: &Option<Oid>, octets: &[u8]) -> Result<En
 }
 
 /// Returns the octets of a string, `None` where the element is no string.
-fn string_of(alloc: Global, element: &Node) -> Result<Option<Bytes>, AllocError>
+pub(crate) fn string_of(alloc: Global, element: &Node) -> Result<Option<Bytes>, AllocError>
     ensures { IfOk result (λ found. MatchOption found (is_string element.now ≡ false)
         (λ octets. (is_string element.now ≡ true) × (octets ≡ string_octets element.now))) }
 {
@@ -271,7 +271,7 @@ fn opac_in_content(
 }
 
 /// Returns the record with its copies that a record is, `None` if it is none.
-pub(crate) fn opac_of(alloc: Global, record: &Record) -> Result<Option<OpacRecord>, AllocError>
+pub fn opac_of(alloc: Global, record: &Record) -> Result<Option<OpacRecord>, AllocError>
     ensures { IfOk result (λ found. found ≡ opac_of «record».now) }
 {
     match &record.body {
@@ -315,7 +315,7 @@ fn bibliographic_entry(alloc: Global, found: &Option<External>) -> Result<Entry,
 
 /// Returns what is shown of a record, or of what stands in its place; of a record with its copies the bibliographic
 /// record.
-pub(crate) fn entry_with(
+pub fn entry_with(
     alloc: Global,
     record: &Record,
     opac: &Option<OpacRecord>,

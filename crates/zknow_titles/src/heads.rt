@@ -28,7 +28,7 @@ fn put_blocks(
 }
 
 /// Returns why a connection stopped, in words for a line of its own.
-fn show_stop(alloc: Global, detail: Detail) -> Result<String, AllocError>
+pub fn show_stop(alloc: Global, detail: Detail) -> Result<String, AllocError>
     ensures { IfOk result (λ words. string_bytes words ≡ stop_words detail) }
 {
     let mut words = String::new(alloc);

@@ -1,14 +1,24 @@
 //! Laws of the definitions, each the contract of a function that does nothing.
-ghost use Rattle.zknow_titles.specs.Laws.{SafeLaw, QuietLaw, NamesLaw};
+ghost use Rattle.zknow_titles.specs.Laws.{SafeLaw, SafeRecordsLaw, QuietLaw, QuietRecordsLaw, NamesLaw};
 
 /// The view is safe to print on a terminal, whatever the names, the stops and the facts are.
 pub fn safe_law()
     ensures { SafeLaw }
 {}
 
+/// The view with whole records is safe to print on a terminal, whatever the names, the stops and the facts are.
+pub fn safe_records_law()
+    ensures { SafeRecordsLaw }
+{}
+
 /// If no target stopped, the view is that of no stops: the line of each set, and the rows.
 pub fn quiet_law()
     ensures { QuietLaw }
+{}
+
+/// If no target stopped, the view with whole records is that of no stops.
+pub fn quiet_records_law()
+    ensures { QuietRecordsLaw }
 {}
 
 /// The name of each row, as it is printed, takes at most 24 columns of a terminal, and as many as that of each other

@@ -1,6 +1,6 @@
 //! A view of what is known for people: a line for each catalogue, also for one that stopped, and one or more for each
-//! position, with the years and titles of the records there. Whatever the records are, the text is safe to print on a
-//! terminal.
+//! position, with the years and titles of the records there, or with the whole records. Whatever the records are, the
+//! text is safe to print on a terminal.
 #![tactic(auto)]
 
 mod blocks;
@@ -15,5 +15,13 @@ mod names;
 mod rows;
 mod sutrs;
 mod titles;
+mod wholes;
 
-pub use titles::print_titles;
+pub use blocks::{
+    count_shown, counts_of, put_failure, put_joined, put_requests, records_of, show_numbers,
+    show_search,
+};
+pub use entries::{Entry, entry_with, opac_of};
+pub use heads::show_stop;
+pub use names::{label_of, name_of, show_names};
+pub use titles::{print_fields, print_titles};

@@ -7,7 +7,7 @@ use zknow::Names;
 use zmarc::{Charset, put_text};
 
 /// Returns each name as safe text.
-pub(crate) fn show_names(alloc: Global, names: &Names) -> Result<Vec<String>, AllocError>
+pub fn show_names(alloc: Global, names: &Names) -> Result<Vec<String>, AllocError>
     ensures { IfOk result (λ shown. map string_bytes shown.items ≡ shown_names names.now) }
 {
     let mut shown = Vec::new(alloc);
@@ -40,7 +40,7 @@ fn put_name(
 }
 
 /// Returns the name of a target, or `#` and its number where it has no name.
-pub(crate) fn name_of(alloc: Global, shown: &[String], target: usize) -> Result<String, AllocError>
+pub fn name_of(alloc: Global, shown: &[String], target: usize) -> Result<String, AllocError>
     ensures { IfOk result (λ found. string_bytes found
         ≡ name_or_number target (slice_get (map string_bytes shown.now) target)) }
 {
@@ -63,7 +63,7 @@ fn put_set(alloc: Global, set: u32, line: &mut String) -> Result<(), AllocError>
 
 /// Returns the name of a target's set: the target's name, or `#` and its number, and the number of a set other than the
 /// connection and the first.
-pub(crate) fn label_of(
+pub fn label_of(
     alloc: Global,
     shown: &[String],
     target: u32,

@@ -5,12 +5,15 @@ ghost use Rattle.zopac.specs.Copies.{holding_line};
 ghost use Rattle.zknow_titles.specs.Entries.{texts, entry, opac_of};
 ghost use Rattle.zknow_titles.specs.Columns.{spaces};
 ghost use Rattle.zknow_titles.specs.Lines.{ended_line, ended};
-ghost use Rattle.zknow_titles.specs.Rows.{row_name, wider, widths, row_head, row_entry, further_entry, copy_row, copy_rows, further_lines, several, record_lines, row_lines};
+ghost use Rattle.zknow_titles.specs.Wholes.{whole_lines};
+ghost use Rattle.zknow_titles.specs.Rows.{row_name, wider, widths, row_head, row_entry, further_entry, below_row};
+ghost use Rattle.zknow_titles.specs.Rows.{copy_rows, below_rows, further_lines, several, record_lines, row_lines};
 
 use crate::blocks::records_of;
 use crate::columns::{clip, count_columns, put_padded, put_spaces};
-use crate::entries::{Entry, entry_with, opac_of, plain};
+use crate::entries::{entry_with, opac_of};
 use crate::names::label_of;
+use crate::wholes::{Extent, whole_lines};
 use std::alloc::{AllocError, Global};
 use zapdu::Record;
 use zknow::{Knowledge, RowKey};
@@ -99,14 +102,13 @@ fn put_head(
     out.extend_from_slice(b"  ")
 }
 
-/// Appends the year and the text of an entry, and a line feed.
-fn put_entry(entry: &Entry, out: &mut Vec<u8>) -> Result<(), AllocError>
-    ensures { OnOk result (out.new.items
-        ≡ out.old.items ++ ended_line (row_entry (texts (string_bytes entry.now.year) (string_bytes entry.now.line)))) }
+/// Appends a year and a text, and a line feed.
+fn put_texts(year: &str, line: &str, out: &mut Vec<u8>) -> Result<(), AllocError>
+    ensures { OnOk result (out.new.items ≡ out.old.items ++ ended_line (row_entry (texts year.now line.now))) }
 {
-    put_padded(4, entry.year.as_str(), out)?;
+    put_padded(4, year, out)?;
     out.extend_from_slice(b"  ")?;
-    out.extend_from_slice(entry.line.as_bytes())?;
+    out.extend_from_slice(line.as_bytes())?;
     out.extend_from_slice(b"\n")
 }
 
@@ -120,6 +122,25 @@ fn put_indent(w: &Widths, out: &mut Vec<u8>) -> Result<(), AllocError>
     put_spaces(w.name, out)
 }
 
+/// Appends a line below that of a record.
+fn put_below_line(w: &Widths, line: &str, out: &mut Vec<u8>) -> Result<(), AllocError>
+    ensures { OnOk result (out.new.items ≡ out.old.items ++ ended_line (below_row w.now line.now)) }
+{
+    put_indent(w, out)?;
+    put_texts("", line, out)
+}
+
+/// Appends lines below that of a record.
+fn put_below_lines(w: &Widths, lines: &[String], out: &mut Vec<u8>) -> Result<(), AllocError>
+    ensures { OnOk result (out.new.items
+        ≡ out.old.items ++ ended (map (below_row w.now) (map string_bytes lines.now))) }
+{
+    for line in lines {
+        put_below_line(w, line.as_str(), out)?;
+    }
+    Ok(())
+}
+
 /// Appends the line of a copy.
 fn put_copy(
     alloc: Global,
@@ -128,13 +149,11 @@ fn put_copy(
     out: &mut Vec<u8>,
 ) -> Result<(), AllocError>
     ensures { OnOk result (out.new.items
-        ≡ out.old.items ++ ended_line (copy_row w.now (holding_line holding.now))) }
+        ≡ out.old.items ++ ended_line (below_row w.now (holding_line holding.now))) }
 {
-    put_indent(w, out)?;
     let mut line = String::new(alloc);
     put_holding(alloc, holding, &mut line)?;
-    let entry = plain(alloc, line);
-    put_entry(&entry, out)
+    put_below_line(w, line.as_str(), out)
 }
 
 /// Appends the line of each copy.
@@ -145,7 +164,7 @@ fn put_each_copy(
     out: &mut Vec<u8>,
 ) -> Result<(), AllocError>
     ensures { OnOk result (out.new.items
-        ≡ out.old.items ++ ended (map (copy_row w.now) (map holding_line holdings.now))) }
+        ≡ out.old.items ++ ended (map (below_row w.now) (map holding_line holdings.now))) }
 {
     for holding in holdings {
         put_copy(alloc, w, holding, out)?;
@@ -171,46 +190,67 @@ fn put_copies(
     }
 }
 
-/// Appends the year and the text of a record, and a line feed; then the lines of its copies.
+/// Appends what stands below the line of a record: the whole record, if it is shown, and its copies.
+fn put_below(
+    alloc: Global,
+    extent: Extent,
+    w: &Widths,
+    record: &Record,
+    opac: &Option<OpacRecord>,
+    out: &mut Vec<u8>,
+) -> Result<(), AllocError>
+    ensures { OnOk result (out.new.items
+        ≡ out.old.items ++ ended (below_rows extent w.now «record».now opac.now)) }
+{
+    let lines = whole_lines(alloc, extent, record, opac)?;
+    put_below_lines(w, &lines, out)?;
+    put_copies(alloc, w, opac, out)
+}
+
+/// Appends the year and the text of a record, and a line feed; then what stands below it.
 fn put_record(
     alloc: Global,
+    extent: Extent,
     w: &Widths,
     record: &Record,
     out: &mut Vec<u8>,
 ) -> Result<(), AllocError>
     ensures { OnOk result (out.new.items ≡ out.old.items
-        ++ (ended_line (row_entry (entry «record».now)) ++ ended (copy_rows w.now (opac_of «record».now)))) }
+        ++ (ended_line (row_entry (entry «record».now))
+        ++ ended (below_rows extent w.now «record».now (opac_of «record».now)))) }
 {
     let opac = opac_of(alloc, record)?;
     let entry = entry_with(alloc, record, &opac)?;
-    put_entry(&entry, out)?;
-    put_copies(alloc, w, &opac, out)
+    put_texts(entry.year.as_str(), entry.line.as_str(), out)?;
+    put_below(alloc, extent, w, record, &opac, out)
 }
 
 /// Appends lines of its own for a further record of a row.
 fn put_further(
     alloc: Global,
+    extent: Extent,
     w: &Widths,
     record: &Record,
     out: &mut Vec<u8>,
 ) -> Result<(), AllocError>
-    ensures { OnOk result (out.new.items ≡ out.old.items ++ ended (further_lines w.now «record».now)) }
+    ensures { OnOk result (out.new.items ≡ out.old.items ++ ended (further_lines extent w.now «record».now)) }
 {
     put_indent(w, out)?;
-    put_record(alloc, w, record, out)
+    put_record(alloc, extent, w, record, out)
 }
 
 /// Appends lines of its own for each record.
 fn put_each(
     alloc: Global,
+    extent: Extent,
     w: &Widths,
     records: &[Record],
     out: &mut Vec<u8>,
 ) -> Result<(), AllocError>
-    ensures { OnOk result (out.new.items ≡ out.old.items ++ ended (flat_map (further_lines w.now) records.now)) }
+    ensures { OnOk result (out.new.items ≡ out.old.items ++ ended (flat_map (further_lines extent w.now) records.now)) }
 {
     for record in records {
-        put_further(alloc, w, record, out)?;
+        put_further(alloc, extent, w, record, out)?;
     }
     Ok(())
 }
@@ -234,22 +274,23 @@ fn put_several(
 /// Appends the lines of a row: the record, or how many there are and then each.
 fn put_records(
     alloc: Global,
+    extent: Extent,
     w: &Widths,
     head: &[u8],
     records: &[Record],
     out: &mut Vec<u8>,
 ) -> Result<(), AllocError>
-    ensures { OnOk result (out.new.items ≡ out.old.items ++ ended (record_lines w.now head.now records.now)) }
+    ensures { OnOk result (out.new.items ≡ out.old.items ++ ended (record_lines extent w.now head.now records.now)) }
 {
     match records {
         [] => Ok(()),
         [record] => {
             out.extend_from_slice(head)?;
-            put_record(alloc, w, record, out)
+            put_record(alloc, extent, w, record, out)
         }
         _ => {
             put_several(alloc, head, records.len(), out)?;
-            put_each(alloc, w, records, out)
+            put_each(alloc, extent, w, records, out)
         }
     }
 }
@@ -257,6 +298,7 @@ fn put_records(
 /// Appends the lines of a row.
 pub(crate) fn put_row(
     alloc: Global,
+    extent: Extent,
     w: &Widths,
     shown: &[String],
     knowledge: &Knowledge,
@@ -264,10 +306,10 @@ pub(crate) fn put_row(
     out: &mut Vec<u8>,
 ) -> Result<(), AllocError>
     ensures { OnOk result (out.new.items
-        ≡ out.old.items ++ ended (row_lines w.now (map string_bytes shown.now) knowledge.now key.now)) }
+        ≡ out.old.items ++ ended (row_lines extent w.now (map string_bytes shown.now) knowledge.now key.now)) }
 {
     let mut head = Vec::new(alloc);
     put_head(alloc, w, shown, key, &mut head)?;
     let records = records_of(knowledge, key.target, key.set, &key.position);
-    put_records(alloc, w, &head, records, out)
+    put_records(alloc, extent, w, &head, records, out)
 }

@@ -4,11 +4,12 @@ ghost use Rattle.std.specs.List.{flat_map};
 ghost use Rattle.zknow_titles.specs.Laws.{IsSafeView, HasNameColumns};
 ghost use Rattle.zknow_titles.specs.Lines.{ended};
 ghost use Rattle.zknow_titles.specs.Rows.{row_lines};
-ghost use Rattle.zknow_titles.specs.Titles.{between, title_lines, titles};
+ghost use Rattle.zknow_titles.specs.Titles.{between, title_lines, view, titles, whole_records};
 
 use crate::heads::show_head;
 use crate::names::show_names;
 use crate::rows::{Widths, find_widths, put_row};
+use crate::wholes::Extent;
 use std::alloc::{AllocError, Global};
 use zknow::{Knowledge, Names, RowKey, SetKey};
 use zknow_stops::Stop;
@@ -26,17 +27,18 @@ fn put_between(head: &[u8], rows: &[RowKey], out: &mut Vec<u8>) -> Result<(), Al
 /// Appends the lines of each row.
 fn put_rows(
     alloc: Global,
+    extent: Extent,
     w: &Widths,
     shown: &[String],
     knowledge: &Knowledge,
     rows: &[RowKey],
     out: &mut Vec<u8>,
 ) -> Result<(), AllocError>
-    ensures { OnOk result (out.new.items
-        ≡ out.old.items ++ ended (flat_map (row_lines w.now (map string_bytes shown.now) knowledge.now) rows.now)) }
+    ensures { OnOk result (out.new.items ≡ out.old.items
+        ++ ended (flat_map (row_lines extent w.now (map string_bytes shown.now) knowledge.now) rows.now)) }
 {
     for key in rows {
-        put_row(alloc, w, shown, knowledge, key, out)?;
+        put_row(alloc, extent, w, shown, knowledge, key, out)?;
     }
     Ok(())
 }
@@ -44,6 +46,7 @@ fn put_rows(
 /// Appends the lines of the targets and of the rows.
 fn put_lines(
     alloc: Global,
+    extent: Extent,
     shown: &[String],
     knowledge: &Knowledge,
     stops: &[Option<Stop>],
@@ -52,30 +55,33 @@ fn put_lines(
     out: &mut Vec<u8>,
 ) -> Result<(), AllocError>
     ensures { OnOk result (out.new.items
-        ≡ out.old.items ++ ended (title_lines (map string_bytes shown.now) stops.now knowledge.now sets.now rows.now)) }
+        ≡ out.old.items ++ ended (title_lines extent (map string_bytes shown.now) stops.now knowledge.now sets.now
+        rows.now)) }
 {
     let head = show_head(alloc, shown, knowledge, stops, sets)?;
     out.extend_from_slice(&head)?;
     put_between(&head, rows, out)?;
     let w = find_widths(alloc, shown, rows)?;
-    put_rows(alloc, &w, shown, knowledge, rows, out)
+    put_rows(alloc, extent, &w, shown, knowledge, rows, out)
 }
 
 /// Returns the view as a text of its own.
-#[tactic(auto, unfolding(crate::specs::Titles::titles))]
 fn view(
     alloc: Global,
+    extent: Extent,
     knowledge: &Knowledge,
     names: &Names,
     stops: &[Option<Stop>],
 ) -> Result<Vec<u8>, AllocError>
-    ensures { IfOk result (λ text. text.items ≡ titles names.now stops.now knowledge.now) }
+    ensures { IfOk result (λ text. text.items ≡ view extent names.now stops.now knowledge.now) }
 {
     let mut text = Vec::new(alloc);
     let shown = show_names(alloc, names)?;
     let sets = knowledge.sets()?;
     let rows = knowledge.rows()?;
-    put_lines(alloc, &shown, knowledge, stops, &sets, &rows, &mut text)?;
+    put_lines(
+        alloc, extent, &shown, knowledge, stops, &sets, &rows, &mut text,
+    )?;
     Ok(text)
 }
 
@@ -95,7 +101,7 @@ fn view(
 /// lines are UTF-8 of safe characters alone (`IsSafeText` of `zmarc`).
 ///
 /// Returns `AllocError` if no memory is found; nothing is appended.
-#[tactic(auto, using(crate::proofs::SafeTheory::view_is_safe))]
+#[tactic(auto, unfolding(crate::specs::Titles::titles), using(crate::proofs::SafeTheory::view_is_safe))]
 pub fn print_titles(
     alloc: Global,
     knowledge: &Knowledge,
@@ -108,6 +114,34 @@ pub fn print_titles(
     ensures safe { IsSafeView (titles names.now stops.now knowledge.now) }
     ensures columns { HasNameColumns names.now knowledge.now }
 {
-    let text = view(alloc, knowledge, names, stops)?;
+    let text = view(alloc, Extent::Title, knowledge, names, stops)?;
+    out.extend_from_slice(&text)
+}
+
+/// Appends the view as `print_titles` does, and below the line of each record the whole record, indented as the lines
+/// of copies are, also below each of several records at a position. It has these lines:
+///
+/// - Of octets of ISO 2709 those of `zmarc`'s `gather_lines`: the leader, and each field.
+/// - Of SUTRS each line of its text.
+/// - Of a record of the syntax OPAC those of its bibliographic record; then, as in `print_titles`, its copies.
+/// - Of others none.
+///
+/// What `print_titles` says of stops, names and safe text, it says of this view too.
+///
+/// Returns `AllocError` if no memory is found; nothing is appended.
+#[tactic(auto, unfolding(crate::specs::Titles::whole_records), using(crate::proofs::SafeTheory::records_are_safe))]
+pub fn print_fields(
+    alloc: Global,
+    knowledge: &Knowledge,
+    names: &Names,
+    stops: &[Option<Stop>],
+    out: &mut Vec<u8>,
+) -> Result<(), AllocError>
+    ensures ok { OnOk result (out.new.items ≡ out.old.items ++ whole_records names.now stops.now knowledge.now) }
+    ensures err { OnErr result (out.new.items ≡ out.old.items) }
+    ensures safe { IsSafeView (whole_records names.now stops.now knowledge.now) }
+    ensures columns { HasNameColumns names.now knowledge.now }
+{
+    let text = view(alloc, Extent::Whole, knowledge, names, stops)?;
     out.extend_from_slice(&text)
 }

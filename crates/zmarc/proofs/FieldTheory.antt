@@ -8,7 +8,7 @@ use Rattle.std.specs.Option.{option_map, option_or, option_copied, option_to_lis
 use Rattle.std.specs.Str.{bytes_eq}
 use Rattle.std.proofs.lemmas.List.Sums.{sum_by-cons}
 use Rattle.std.proofs.Math.Nat.{div-mul-le_self, zero-div, sub-zero, suc-mul}
-use Rattle.zmarc.specs.Records.{base_address, is_end, directory, directory_to, contents, from_base, length_digits, start_digits, entry_len, entry_count, entries, Field, octets_of, tagged_octets, field_of, fields, has_tag, tagged_fields, first_field, lost_count, told_len, told_total}
+use Rattle.zmarc.specs.Records.{base_address, is_end, directory, directory_to, contents, from_base, length_digits, start_digits, entry_len, entry_count, entries, Field, octets_of, tagged_octets, field_told, field_of, fields, has_tag, tagged_fields, first_field, lost_count, told_len, told_total}
 
 -- ---- where the directory and the contents stand
 
@@ -130,6 +130,53 @@ module _ (tag octets : List ℕ) where
       ap (λ n. seen_in (entries len n d)) (sub-zero (length d / len))
       ∙ ap (λ m. seen_in (entries m (length d / m) d)) sized
       ∙ ap (λ r. seen_in (entries (entry_len octets) (length r / entry_len octets) r)) is
+
+-- ---- all fields
+
+module _ (octets : List ℕ) where
+  -- those that the entries tell of
+  abbrev pub fields_in : List (List ℕ) → List Field
+  fields_in es = filter_map (field_of octets) es
+
+  abbrev field_from : List ℕ → Option (List ℕ) → Option Field
+  field_from e o = option_map (λ found. record { tag = take 3 e; octets = found }) o
+
+  pub field_is : (told_of e e' : List ℕ) (a b : ℕ) → told_of ≡ contents octets → a ≡ length_digits octets
+      → b ≡ start_digits octets → e' ≡ e → field_told told_of a b e' ≡ field_of octets e
+  field_is told_of e e' a b there long begins same =
+      ap (λ s. field_told s a b e') there ∙ ap (λ n. field_told (contents octets) n b e') long
+      ∙ ap (λ n. field_told (contents octets) (length_digits octets) n e') begins ∙ ap (field_of octets) same
+
+  fields_by : (o : Option (List ℕ)) (e : List ℕ) (es : List (List ℕ))
+      → octets_of (contents octets) (length_digits octets) (start_digits octets) e ≡ o
+      → fields_in (e ∷ es) ≡ option_to_list (field_from e o) ++ fields_in es
+  fields_by None e es is = rw is refl
+  fields_by (Some x) e es is = rw is refl
+
+  fields_next : (len n m : ℕ) (rest : List ℕ) → n ≡ suc m
+      → fields_in (entries len n rest)
+      ≡ option_to_list (field_of octets (take len rest)) ++ fields_in (entries len m (drop len rest))
+  fields_next len n m rest h =
+      let e = take len rest in
+      ap (λ k. fields_in (entries len k rest)) h
+      ∙ fields_by (octets_of (contents octets) (length_digits octets) (start_digits octets) e) e
+      (entries len m (drop len rest)) refl
+
+  pub fields_on : (len n m : ℕ) (rest : List ℕ) (before next all : List Field) (o : Option Field) → n ≡ suc m
+      → o ≡ field_of octets (take len rest) → next ≡ before ++ option_to_list o
+      → before ++ fields_in (entries len n rest) ≡ all → next ++ fields_in (entries len m (drop len rest)) ≡ all
+  fields_on len n m rest before next all o h is grown same =
+      let left = fields_in (entries len m (drop len rest)) in
+      ap (λ l. l ++ left) (grown ∙ ap (λ t. before ++ option_to_list t) is)
+      ∙ append_assoc before (option_to_list (field_of octets (take len rest))) left
+      ∙ ap (λ l. before ++ l) (sym (fields_next len n m rest h)) ∙ same
+
+  pub all_fields : (len : ℕ) (d : List ℕ) → len ≡ entry_len octets → d ≡ directory octets
+      → fields_in (entries len (length d / len - 0) d) ≡ fields octets
+  all_fields len d sized is =
+      ap (λ n. fields_in (entries len n d)) (sub-zero (length d / len))
+      ∙ ap (λ m. fields_in (entries m (length d / m) d)) sized
+      ∙ ap (λ r. fields_in (entries (entry_len octets) (length r / entry_len octets) r)) is
 
 -- ---- entries that tell of nothing
 

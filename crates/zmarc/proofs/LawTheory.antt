@@ -168,7 +168,7 @@ foreign set there octets other none =
 
 -- ---- subfields
 
-none_is : (xs : List ℕ) → NoDelimiter xs → All (λ x. is_delimiter x ≡ false) xs
+pub none_is : (xs : List ℕ) → NoDelimiter xs → All (λ x. is_delimiter x ≡ false) xs
 none_is xs h = λ k d inside. ne_eqb (get_or xs k d) 0x1F (h k d inside)
 
 abbrev IsMade : Subfield → Type 0

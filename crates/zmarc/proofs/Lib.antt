@@ -5,8 +5,10 @@ pub mod Cuts
 pub mod EndTheory
 pub mod FieldTheory
 pub mod LawTheory
+pub mod LinesTheory
 pub mod NothingTheory
 pub mod SafeFields
+pub mod SafeLines
 pub mod SafeTheory
 pub mod ShownTheory
 pub mod SubfieldTheory

@@ -113,7 +113,7 @@ nothing_is_safe = record {
   plain = All-nil IsSafeOctet;
 }
 
-space_is_safe : IsSafeText (0x20 ∷ [])
+pub space_is_safe : IsSafeText (0x20 ∷ [])
 unfolding encode
 space_is_safe = record {
   characters = 0x20 ∷ [];
@@ -123,7 +123,7 @@ space_is_safe = record {
   plain = All-cons IsSafeOctet 0x20 [] (low 0x20 (safe_by 0x20 refl) (lit< tt)) (All-nil IsSafeOctet);
 }
 
-append_is_safe : (a b : List ℕ) → IsSafeText a → IsSafeText b → IsSafeText (a ++ b)
+pub append_is_safe : (a b : List ℕ) → IsSafeText a → IsSafeText b → IsSafeText (a ++ b)
 append_is_safe a b first then = record {
   characters = first.characters ++ then.characters;
   spelled = encodes-append first.characters then.characters ∙ ap (λ l. l ++ encodes then.characters) first.spelled

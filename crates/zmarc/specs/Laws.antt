@@ -1,5 +1,5 @@
 -- Laws of the definitions, in the terms of the standards.
-use Rattle.std.specs.Prelude.{◌≡◌, ◌≢◌, ℕ, ◌+◌, ◌^◌, ◌≤◌, ◌<◌, true, false, Some, length, List, [], ◌∷◌, ◌++◌, All, find}
+use Rattle.std.specs.Prelude.{◌≡◌, ◌≢◌, ℕ, ◌+◌, ◌^◌, ◌≤◌, ◌<◌, true, false, Some, length, map, List, [], ◌∷◌, ◌++◌, All, find}
 use Rattle.std.specs.Char.{IsScalar}
 use Rattle.std.specs.List.{flat_map}
 use Rattle.std.specs.Str.{encode_utf8_all, byte}
@@ -12,10 +12,11 @@ use Rattle.zmarc.specs.Shown.{IsSafe}
 use Rattle.zmarc.specs.Charsets.{text}
 use Rattle.zmarc.specs.Marc8.{meaning, marc8}
 use Rattle.zmarc.specs.declared.format.Format.{Format}
-use Rattle.zmarc.specs.Briefs.{title_tag, brief}
+use Rattle.zmarc.specs.Briefs.{title_tag, brief, charset}
+use Rattle.zmarc.specs.Lines.{subfield_text, data_text, field_line, field_lines}
 use Rattle.zmarc.specs.Records.{is_record, Field, fields, has_tag, entry_count, lost_count}
 use Rattle.zmarc.specs.Subfields.{Subfield, subfields}
-use Rattle.zmarc.specs.Written.{record_of, AreWritable, TellsLength}
+use Rattle.zmarc.specs.Written.{leader, record_of, AreWritable, TellsLength}
 use Rattle.zmarc.specs.Years.{year}
 
 -- ---- what is shown
@@ -94,3 +95,21 @@ pub record BehindLaws : Type 0 where
       → AreWritable status coded fs → TellsLength (record_of status coded fs)
       → length (record_of status coded fs ++ more) < 2 ^ 32
       → brief format (record_of status coded fs ++ more) ≡ brief format (record_of status coded fs)
+
+-- ---- records line by line
+
+-- the lines of a leader and of fields
+abbrev pub written_lines : Charset → List ℕ → List Field → List (List ℕ)
+written_lines set head fs = text set head ∷ map (field_line set) fs
+
+-- what holds of the lines of a record, and of what stands behind a tag
+pub record LinesLaws : Type 0 where
+  -- the lines of a record are those of its leader and of the fields that it was written of, and no more
+  pub of_record : (format : Format) (status coded : List ℕ) (fs : List Field) → AreWritable status coded fs
+      → field_lines format (record_of status coded fs)
+      ≡ written_lines (charset format (record_of status coded fs)) (leader status coded fs) fs
+  -- of a field that was made of indicators and subfields these are shown, and no more
+  pub of_field : (set : Charset) (indicators : List ℕ) (made : List Subfield) → NoDelimiter indicators
+      → All (λ s. NoDelimiter (s.code ∷ s.octets)) made
+      → data_text set (indicators ++ flat_map subfield_octets made)
+      ≡ text set indicators ++ flat_map (subfield_text set) made

@@ -4,6 +4,7 @@ pub mod Charsets
 pub mod Fields
 pub mod Isbns
 pub mod Laws
+pub mod Lines
 pub mod Marc8
 pub mod Numbers
 pub mod Records

@@ -106,11 +106,15 @@ abbrev pub tagged_octets : List ℕ → ℕ → ℕ → List ℕ → List ℕ �
 tagged_octets contents length_len start_len tag entry =
     if bytes_eq (take 3 entry) tag then octets_of contents length_len start_len entry else None
 
--- the field that an entry tells of: its tag and its octets; none where the entry tells of no octets
+-- the field that an entry with parts of that many digits tells of: its tag and its octets; none where the entry tells
+-- of no octets
+abbrev pub field_told : List ℕ → ℕ → ℕ → List ℕ → Option Field
+field_told contents length_len start_len entry =
+    option_map (λ found. record { tag = take 3 entry; octets = found }) (octets_of contents length_len start_len entry)
+
+-- the field that an entry of the directory tells of
 abbrev pub field_of : List ℕ → List ℕ → Option Field
-field_of octets entry =
-    option_map (λ found. record { tag = take 3 entry; octets = found })
-    (octets_of (contents octets) (length_digits octets) (start_digits octets) entry)
+field_of octets entry = field_told (contents octets) (length_digits octets) (start_digits octets) entry
 
 -- how many entries the directory has
 abbrev pub entry_count : List ℕ → ℕ

@@ -1,6 +1,6 @@
 //! Bibliographic records of ISO 2709 (ANSI/NISO Z39.2) as one readable line each: the title and who made it, and the
-//! ISBN, of records in MARC 21 and UNIMARC; and year, title, author and ISBN each by itself. All of these are texts
-//! that are safe to print, whatever the octets are.
+//! ISBN, of records in MARC 21 and UNIMARC; year, title, author and ISBN each by itself; and a whole record line by
+//! line. All of these are texts that are safe to print, whatever the octets are.
 #![tactic(auto)]
 
 mod brief;
@@ -9,6 +9,7 @@ mod fields;
 mod format;
 mod isbn;
 pub mod laws;
+mod lines;
 mod marc8;
 mod numbers;
 mod pieces;
@@ -22,6 +23,7 @@ pub use brief::put_brief;
 pub use charset::{Charset, put_text};
 pub use fields::{put_author, put_isbn, put_title, put_year};
 pub use format::Format;
+pub use lines::{gather_lines, put_lines};
 pub use records::{count_lost, first_field, is_record};
 pub use subfields::subfield_in;
 pub use syntax::format_of;

@@ -1,11 +1,12 @@
 //! Records of ISO 2709 (ANSI/NISO Z39.2): a leader of 24 octets, a directory of entries, and fields.
-ghost use Rattle.std.specs.Prelude.{◌≡◌, ◌≤◌, ◌+◌, ◌++◌, length, nat_le, OnOk, IfOk, IfSome};
+ghost use Rattle.std.specs.Prelude.{◌≡◌, ◌≤◌, ◌+◌, ◌++◌, length, map, take, nat_le, OnOk, IfOk, IfSome};
 ghost use Rattle.std.specs.List.{before_first};
 ghost use Rattle.std.specs.Option.{option_copied, option_to_list};
 ghost use Rattle.zmarc.specs.Records.{base_address, own_octets, is_record, is_end};
 ghost use Rattle.zmarc.specs.Records.{length_digits, start_digits, other_octets};
 ghost use Rattle.zmarc.specs.Records.{octets_of, tagged_octets, tagged_fields, first_field, told_len, told_total, lost_count};
-ghost use Rattle.zmarc.specs.References.{behind_each};
+ghost use Rattle.zmarc.specs.Records.{fields, field_told};
+ghost use Rattle.zmarc.specs.References.{behind_each, field_behind};
 
 use crate::numbers::{read_digit_or, read_number};
 use std::alloc::{AllocError, Global};
@@ -52,6 +53,16 @@ pub(crate) fn cut_own_octets(octets: &[u8]) -> &[u8]
         Some(len) if LEADER_LEN <= len && len <= octets.len() => &octets[..len],
         _ => octets,
     }
+}
+
+/// The leader, or all octets where they are fewer.
+pub(crate) fn cut_leader(octets: &[u8]) -> &[u8]
+    ensures { result.now ≡ take 24 octets.now }
+{
+    if octets.len() < LEADER_LEN {
+        return octets;
+    }
+    &octets[..LEADER_LEN]
 }
 
 /// What stands before the first terminator, of a field or a record; all octets where there is none.
@@ -143,6 +154,34 @@ fn take_tagged<'a>(
 {
     if let Some(field) = read_tagged_entry(contents, layout, tag, entry) {
         found.push(field)?;
+    }
+    Ok(())
+}
+
+/// A field of a record: its tag, and its octets.
+#[derive(Clone, Copy)]
+pub(crate) struct TaggedOctets<'a> {
+    pub(crate) tag: &'a [u8],
+    pub(crate) octets: &'a [u8],
+}
+
+/// Takes the field that an entry tells of, where it tells of any.
+fn take_field<'a>(
+    contents: &'a [u8],
+    layout: Layout,
+    entry: &'a [u8],
+    found: &mut Vec<TaggedOctets<'a>>,
+) -> Result<(), AllocError>
+    requires whole { 3 + layout.length_digits + layout.start_digits ≤ length entry.now }
+    requires short { (layout.length_digits ≤ 9) × (layout.start_digits ≤ 9) }
+    ensures { OnOk result (map field_behind found.new.items ≡ map field_behind found.old.items
+        ++ option_to_list (field_told contents.now layout.length_digits layout.start_digits entry.now)) }
+{
+    if let Some(octets) = read_entry(contents, layout, entry) {
+        found.push(TaggedOctets {
+            tag: &entry[..TAG_LEN],
+            octets,
+        })?;
     }
     Ok(())
 }
@@ -248,6 +287,30 @@ pub(crate) fn gather_tagged_fields<'a>(
     for _ in 0..rest.len() / len {
         let (entry, behind) = rest.split_at(len);
         take_tagged(contents, layout, tag, entry, &mut found)?;
+        rest = behind;
+    }
+    Ok(found)
+}
+
+/// The fields, in the order of the directory; none where the leader tells no base address.
+#[tactic(auto, using(crate::proofs::FieldTheory::fields_none))]
+pub(crate) fn gather_fields(
+    alloc: Global,
+    octets: &[u8],
+) -> Result<Vec<TaggedOctets<'_>>, AllocError>
+    ensures { IfOk result (λ found. map field_behind found.items ≡ fields octets.now) }
+{
+    let mut found = Vec::new(alloc);
+    let Some(at) = read_base_address(octets) else {
+        return Ok(found);
+    };
+    let contents = &octets[at..];
+    let mut rest = cut_before_end(&octets[LEADER_LEN..at]);
+    let layout = read_entry_layout(octets);
+    let len = TAG_LEN + layout.length_digits + layout.start_digits + layout.other_octets;
+    for _ in 0..rest.len() / len {
+        let (entry, behind) = rest.split_at(len);
+        take_field(contents, layout, entry, &mut found)?;
         rest = behind;
     }
     Ok(found)

@@ -1,12 +1,23 @@
 //! Subfields: a delimiter, a code of one octet, and data (ISO 2709 with the identifier length 2).
 ghost use Rattle.std.specs.Prelude.{◌≡◌, ◌<◌, ◌∷◌, [], length, MatchOption};
 ghost use Rattle.std.specs.Option.{option_copied};
+ghost use Rattle.zmarc.specs.Lines.{indicators};
 ghost use Rattle.zmarc.specs.Subfields.{parts, first_subfield, subfield_in};
 
 use crate::records::first_field;
 
 /// What stands before the code of a subfield.
 const DELIMITER: u8 = 0x1F;
+
+/// What stands before the first delimiter, the indicators; all octets where there is none.
+pub(crate) fn cut_indicators(field: &[u8]) -> &[u8]
+    ensures { result.now ≡ indicators field.now }
+{
+    match field.iter().position(|octet| *octet == DELIMITER) {
+        Some(at) => &field[..at],
+        None => field,
+    }
+}
 
 /// What stands behind the first delimiter, up to the next, and what stands from that next one on; nothing where there
 /// is no delimiter.

@@ -23,6 +23,8 @@ fn main(mut rt: HostRuntime) -> ExitCode {
         Err(error) => Err(error.kind()),
     };
     let screen = screen_of(&rt);
+    // A person gets faults in words, too.
+    errors.explain(rt.alloc(), screen.is_some());
     exit_of(run(
         rt.alloc(),
         &mut rt,

@@ -8,6 +8,7 @@ use Rattle.zmeta_args.specs.declared.arguments.View.{View}
 use Rattle.zmeta_args.specs.declared.arguments.View.TheVariants as views
 use Rattle.zmeta_args.specs.declared.arguments.SearchOptions.{SearchOptions}
 use Rattle.zmeta_args.specs.declared.arguments.LimitOptions.{LimitOptions}
+use Rattle.zmeta_args.specs.declared.arguments.CommandLine.{CommandLine}
 use Rattle.zmeta_args.specs.declared.arguments.Arguments.{Arguments}
 use Rattle.zmeta_args.specs.declared.arguments.Arguments.TheVariants.{Show, Pqf, Join, Records, Run, Ask, Loop, Serve}
 use Rattle.zmeta_args.specs.Texts.{texts_of, now_of}
@@ -60,14 +61,17 @@ IsGiven found id = one_text found id ≡ Some (codes "true")
 abbrev pub IsLeftOut : Found → List ℕ → Type 0
 IsLeftOut found id = (one_text found id ≡ None) ⊎ (one_text found id ≡ Some (codes "false"))
 
--- what is printed: the titles, JSON or the list in hexadecimal if that is asked for, else the list
+-- what is printed: the titles, JSON, the list in hexadecimal, or the titles with all fields, if that is asked for, else
+-- the list
 pub record HasView (found : Found) (view : View) : Type 0 where
   pub titles : IsGiven found (codes "titles") → view ≡ views.Titles
   pub json : IsLeftOut found (codes "titles") → IsGiven found (codes "json") → view ≡ views.Json
   pub hex : IsLeftOut found (codes "titles") → IsLeftOut found (codes "json") → IsGiven found (codes "hex")
       → view ≡ views.Hex
+  pub fields : IsLeftOut found (codes "titles") → IsLeftOut found (codes "json") → IsLeftOut found (codes "hex")
+      → IsGiven found (codes "fields") → view ≡ views.Fields
   pub left_out : IsLeftOut found (codes "titles") → IsLeftOut found (codes "json") → IsLeftOut found (codes "hex")
-      → view ≡ views.Text
+      → IsLeftOut found (codes "fields") → view ≡ views.Text
 
 -- how long catalogues are waited for, and over which addresses they are asked: the values of these options
 pub record HasLimits (found : Found) (l : LimitOptions) : Type 0 where
@@ -117,9 +121,14 @@ AreArgumentsOf name found (Serve address whose world count) =
     × HasValue found (codes "NAME") whose.now × HasValue found (codes "FILE") world.now
     × HasNumber found (codes "N") count
 
+-- the command with this name, as its arguments were found, and what is common to all commands
+pub record IsLineOf (name : List ℕ) (found : Found) (line : CommandLine) : Type 0 where
+  pub asks : AreArgumentsOf name found line.command
+  pub explains : HasFlag found (codes "explain") line.explain
+
 -- the argument behind the program's name is a command's name, and its arguments are these
-pub record IsParsed (arguments : List (List ℕ)) (asked : Arguments) : Type 0 where
+pub record IsParsed (arguments : List (List ℕ)) (line : CommandLine) : Type 0 where
   pub name : List ℕ
   pub found : Found
   pub stands : slice_get arguments 1 ≡ Some name
-  pub asks : AreArgumentsOf name found asked
+  pub asks : IsLineOf name found line

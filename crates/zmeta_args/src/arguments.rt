@@ -4,7 +4,7 @@ ghost use Rattle.std.specs.Prelude.{◌≡◌, IfOk, IfSome, codes, map, option_
 ghost use Rattle.clap.specs.Words.{kind_of, found_of};
 ghost use Rattle.clap.specs.declared.error.kind.ErrorKind.TheVariants.{InvalidValue};
 ghost use Rattle.zmeta_args.specs.Texts.{texts_of};
-ghost use Rattle.zmeta_args.specs.Arguments.{IsParsed, AreArgumentsOf, HasValues, HasSeconds, HasLimits, HasSearch, HasView};
+ghost use Rattle.zmeta_args.specs.Arguments.{IsParsed, IsLineOf, AreArgumentsOf, HasFlag, HasValues, HasSeconds, HasLimits, HasSearch, HasView};
 
 use crate::forms::command;
 use clap::error::ErrorKind;
@@ -20,6 +20,8 @@ pub enum View {
     Hex,
     /// The years and titles of the records, for people.
     Titles,
+    /// The same, and below each row the fields of its record.
+    Fields,
     /// One JSON object for each line of the list, for programs.
     Json,
 }
@@ -121,12 +123,21 @@ pub enum Arguments<'a> {
     },
 }
 
+/// A command line: a command with its arguments, and what is common to all commands.
+#[derive(Debug, Drop)]
+pub struct CommandLine<'a> {
+    /// The command.
+    pub command: Arguments<'a>,
+    /// Whether each fault is also told in words.
+    pub explain: bool,
+}
+
 /// Reads the command line: `arguments[0]` is the program's name and `arguments[1]` that of the command.
 ///
 /// Returns the command with the values that `clap` found for its arguments. Otherwise returns `clap`'s error: why
 /// the arguments are wrong, or the help that was asked for. The error's kind is `OutOfMemory` if no memory is
 /// found.
-pub fn parse<'a>(alloc: Global, arguments: &'a [String]) -> Result<Arguments<'a>, Error>
+pub fn parse<'a>(alloc: Global, arguments: &'a [String]) -> Result<CommandLine<'a>, Error>
     ensures asks { IfOk result (IsParsed (map string_bytes arguments.now)) }
 {
     let mut command = command(alloc)?;
@@ -140,28 +151,29 @@ fn asked_by<'a>(
     alloc: Global,
     command: &mut Command<'a>,
     arguments: &'a [String],
-) -> Result<Arguments<'a>, Error>
+) -> Result<CommandLine<'a>, Error>
     ensures asks { IfOk result (IsParsed (map string_bytes arguments.now)) }
 {
     let matches = command.try_get_matches_from_mut(arguments)?;
     if let Some((_, found)) = matches.subcommand()
-        && let Some(asked) = asked_of(alloc, arguments, found)?
+        && let Some(line) = line_of(alloc, arguments, found)?
     {
-        return Ok(asked);
+        return Ok(line);
     }
     Err(command.error(ErrorKind::InvalidSubcommand, "no such command")?)
 }
 
-/// Returns the command with the arguments that `clap` found for it, or `None` if there is no command.
-fn asked_of<'a>(
+/// Returns the command with the arguments that `clap` found for it, and what is common to all commands. `None` if there
+/// is no command.
+fn line_of<'a>(
     alloc: Global,
     arguments: &[String],
     found: &ArgMatches<'a>,
-) -> Result<Option<Arguments<'a>>, AllocError>
-    ensures asks { IfOk result (λ asked. IfSome asked (IsParsed (map string_bytes arguments.now))) }
+) -> Result<Option<CommandLine<'a>>, AllocError>
+    ensures asks { IfOk result (λ line. IfSome line (IsParsed (map string_bytes arguments.now))) }
 {
     match second(arguments) {
-        Some(name) => arguments_of(alloc, name, found),
+        Some(name) => named_line(alloc, name, found),
         None => Ok(None),
     }
 }
@@ -174,6 +186,29 @@ fn second(arguments: &[String]) -> Option<&str>
         Some(word) => Some(word.as_str()),
         None => None,
     }
+}
+
+/// Returns the command of this name with the arguments that were found, and what is common to all commands. `None` if no
+/// command has the name, or a required argument is missing.
+fn named_line<'a>(
+    alloc: Global,
+    name: &str,
+    found: &ArgMatches<'a>,
+) -> Result<Option<CommandLine<'a>>, AllocError>
+    ensures asks { IfOk result (λ line. IfSome line (IsLineOf name.now (found_of found.now))) }
+{
+    let Some(command) = arguments_of(alloc, name, found)? else {
+        return Ok(None);
+    };
+    let explain = has_flag(found, "explain");
+    Ok(Some(CommandLine { command, explain }))
+}
+
+/// Returns whether an option without a value is given.
+fn has_flag(found: &ArgMatches<'_>, id: &str) -> bool
+    ensures { HasFlag (found_of found.now) id.now result }
+{
+    found.get_flag(id)
 }
 
 /// Returns the command of this name with the arguments that were found. `None` if no command has the name, or a
@@ -359,8 +394,8 @@ fn single_of<'a>(name: &str, found: &ArgMatches<'a>) -> Option<Arguments<'a>>
     }
 }
 
-/// Returns what is printed: the titles if `--titles` is given, JSON if `--json` is given, else the list, in
-/// hexadecimal if `--hex` is given.
+/// Returns what is printed: the titles if `--titles` is given, JSON if `--json` is given, the list in hexadecimal if
+/// `--hex` is given, the titles with all fields if `--fields` is given, else the list.
 fn view_of(found: &ArgMatches<'_>) -> View
     ensures { HasView (found_of found.now) result }
 {
@@ -370,6 +405,8 @@ fn view_of(found: &ArgMatches<'_>) -> View
         View::Json
     } else if found.get_flag("hex") {
         View::Hex
+    } else if found.get_flag("fields") {
+        View::Fields
     } else {
         View::Text
     }

@@ -1,9 +1,9 @@
 //! The forms of the command line: its commands with their arguments and options, and their help.
 
 use crate::options::{
-    ANY, ASKED_SYNTAX, AT_ONCE, AUTHOR, CONFLICTS, CONNECT, CommandOption, ELEMENTS, HEX, IPV4,
-    IPV6, ISBN, JSON, ONLY, ONLY_OF, PATIENCE, QUERY, RECORDS as RECORDS_WANTED, SAVE, SUBJECT,
-    SYNTAX, TITLE, TITLES, WITHIN, option,
+    ANY, ASKED_SYNTAX, AT_ONCE, AUTHOR, CONFLICTS, CONNECT, CommandOption, ELEMENTS, EXPLAIN,
+    FIELDS, HEX, IPV4, IPV6, ISBN, JSON, ONLY, ONLY_OF, PATIENCE, QUERY, RECORDS as RECORDS_WANTED,
+    SAVE, SUBJECT, SYNTAX, TITLE, TITLES, WITHIN, option,
 };
 use clap::{Arg, ArgAction, Command, value_parser};
 use std::alloc::{AllocError, Global};
@@ -85,7 +85,7 @@ Example, the message with which a catalogue ends a session:
 prints
   close - 0",
     wants: &[],
-    may: &[],
+    may: &[EXPLAIN],
 };
 
 const PQF: Form = Form {
@@ -107,7 +107,7 @@ prints first
         is_many: false,
         is_needed: true,
     }],
-    may: &[],
+    may: &[EXPLAIN],
 };
 
 const JOIN: Form = Form {
@@ -133,7 +133,7 @@ prints lines as
             is_needed: true,
         },
     ],
-    may: &[TITLES, JSON, HEX],
+    may: &[TITLES, FIELDS, JSON, HEX, EXPLAIN],
 };
 
 const RECORDS: Form = Form {
@@ -163,7 +163,7 @@ Example, the MARC 21 records that a search brought from loc:
             is_needed: false,
         },
     ],
-    may: &[ONLY_OF, SYNTAX, CONFLICTS],
+    may: &[ONLY_OF, SYNTAX, CONFLICTS, EXPLAIN],
 };
 
 const RUN: Form = Form {
@@ -203,9 +203,11 @@ prints lines as
         ELEMENTS,
         ASKED_SYNTAX,
         TITLES,
+        FIELDS,
         JSON,
         HEX,
         SAVE,
+        EXPLAIN,
     ],
 };
 
@@ -257,9 +259,11 @@ or, with another question and the same file, by
         ELEMENTS,
         ASKED_SYNTAX,
         TITLES,
+        FIELDS,
         JSON,
         HEX,
         SAVE,
+        EXPLAIN,
     ],
 };
 
@@ -308,7 +312,7 @@ Example, one client asks the catalogue of a city library:
             is_needed: true,
         },
     ],
-    may: &[],
+    may: &[EXPLAIN],
 };
 
 const LOOP: Form = Form {
@@ -337,9 +341,11 @@ prints lines as
         ELEMENTS,
         ASKED_SYNTAX,
         TITLES,
+        FIELDS,
         JSON,
         HEX,
         SAVE,
+        EXPLAIN,
     ],
 };
 

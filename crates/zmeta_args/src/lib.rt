@@ -5,4 +5,6 @@ mod arguments;
 mod forms;
 mod options;
 
-pub use arguments::{Arguments, LimitOptions, SearchOptions, View, odd_arguments, parse};
+pub use arguments::{
+    Arguments, CommandLine, LimitOptions, SearchOptions, View, odd_arguments, parse,
+};

@@ -45,6 +45,26 @@ pub(crate) const TITLES: CommandOption = CommandOption {
     excludes: &["hex", "json"],
 };
 
+pub(crate) const FIELDS: CommandOption = CommandOption {
+    id: "fields",
+    short: None,
+    help: "Prints what --titles prints, and below each row the fields of its record",
+    value: None,
+    is_many: false,
+    most_seconds: None,
+    excludes: &["hex", "json", "titles"],
+};
+
+pub(crate) const EXPLAIN: CommandOption = CommandOption {
+    id: "explain",
+    short: None,
+    help: "Says below each fault, in words, what is wrong and what to write; terminals get that without it",
+    value: None,
+    is_many: false,
+    most_seconds: None,
+    excludes: &[],
+};
+
 pub(crate) const JSON: CommandOption = CommandOption {
     id: "json",
     short: None,

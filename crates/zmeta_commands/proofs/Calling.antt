@@ -1,19 +1,20 @@
 -- What the program does for its arguments.
 use Rattle.std.proofs.Common.{◌≡◌, ℕ, List, Option, Result, Ok, Err, IfOk, MatchResult}
 use Rattle.clap.specs.declared.error.Error.{Error}
-use Rattle.zmeta_commands.specs.Devices.{Streams, written}
+use Rattle.zmeta_commands.specs.Devices.{Streams, written, explaining_streams}
 use Rattle.zmeta_commands.specs.Files.{MadeFiles}
 use Rattle.zmeta_commands.specs.declared.fault.Status.{Status}
-use Rattle.zmeta_args.specs.declared.arguments.Arguments.{Arguments}
+use Rattle.zmeta_args.specs.declared.arguments.CommandLine.{CommandLine}
 use Rattle.zmeta_args.specs.Arguments.{IsParsed}
 use Rattle.zmeta_commands.specs.Arguments.{AfterCall, AfterParsed, AfterUsage}
 use Rattle.zmeta_commands.specs.Serve.{Serves}
 
 -- the state after the command that was parsed; `Kept` says that the input is unchanged
 pub after_parsed : (Stream : Type 0) (serves : Serves) (octets : List ℕ → Option (List ℕ)) (arguments : List (List ℕ))
-    (asked : Result Arguments Error) (Kept : Type 0) (old new : MadeFiles) (before after : Streams) (status : Status)
+    (asked : Result CommandLine Error) (Kept : Type 0) (old new : MadeFiles) (before after : Streams) (status : Status)
     → IfOk asked (IsParsed arguments)
-    → MatchResult asked (λ w. AfterCall Stream serves octets w old new before after status)
+    → MatchResult asked (λ line. AfterCall Stream serves octets line.command old new
+    (explaining_streams line.explain before) after status)
     (λ e. (new ≡ old) × Kept × AfterUsage e (written before) (written after) status)
     → (Kept → after.input ≡ before.input) → AfterParsed Stream serves octets arguments asked old new before after status
 after_parsed Stream serves octets arguments (Ok asked) Kept old new before after status is does kept = (is, does)

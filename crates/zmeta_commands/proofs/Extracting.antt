@@ -23,8 +23,8 @@ module _ (e : WantedRecords) (octets : List ℕ → Option (List ℕ)) (paths : 
   no_file (NoCatalogue told) h = absurd (no_write octets paths (NoCatalogue told) h)
   no_file Memory h = none_written
   no_file (Read path) h = (h, none_written)
-  no_file (NotKnowledge at) h = (h, none_written)
-  no_file (NotCanonical at) h = (h, none_written)
+  no_file (NotKnowledge refused at) h = (h, none_written)
+  no_file (NotCanonical refused at) h = (h, none_written)
   no_file NamesDiffer h = (h, none_written)
   no_file f h = (h, none_written)
 

@@ -23,17 +23,18 @@ use Rattle.zmeta_commands.specs.declared.fault.Fault.TheVariants.{Read, Write, N
 -- ---- one file
 
 -- a file is refused
-refused : (file : List ℕ) (e : LoadError) → IsLoadFault file e → LoadFileResult file (Err (of_load e))
-refused file (loads.NotKnowledge at) h = h
-refused file (loads.NotCanonical at) h = h
-refused file loads.Memory h = tt
+refused : (file : List ℕ) (path : Bor (List ℕ)) (e : LoadError) → IsLoadFault file e
+    → LoadFileResult file (Err (of_load path e))
+refused file path (loads.NotKnowledge at) h = h
+refused file path (loads.NotCanonical at) h = h
+refused file path loads.Memory h = tt
 
-pub load_refused : (p : Option (List ℕ)) (octets : List ℕ) (e : LoadError) (f : Fault)
-    (r : Result (List Fact × List (List ℕ)) Fault) → r ≡ Err f → f ≡ of_load e → IfSome p (λ xs. octets ≡ xs)
+pub load_refused : (p : Option (List ℕ)) (octets : List ℕ) (path : Bor (List ℕ)) (e : LoadError) (f : Fault)
+    (r : Result (List Fact × List (List ℕ)) Fault) → r ≡ Err f → f ≡ of_load path e → IfSome p (λ xs. octets ≡ xs)
     → IsLoadFault octets e → IfSome p (λ file. LoadFileResult file r)
-load_refused None octets e f r is of whole fault = tt
-load_refused (Some file) octets e f r is of whole fault =
-    rw (is, of) (refused file e (subst (λ l. IsLoadFault l e) whole fault))
+load_refused None octets path e f r is of whole fault = tt
+load_refused (Some file) octets path e f r is of whole fault =
+    rw (is, of) (refused file path e (subst (λ l. IsLoadFault l e) whole fault))
 
 -- ---- one more file
 
@@ -67,8 +68,8 @@ among : (octets : List ℕ → Option (List ℕ)) (names : List (List ℕ)) (pat
     (rest : List (List ℕ)) (old new : List Fact) (f : Fault) → AreJoined octets names paths old
     → AbsorbNamedResult octets names path old new (Err f) → IsRefusedAmong octets (paths ++ path ∷ rest) f
 among octets names paths path rest old new (Read told) joined a = later paths names rest old path joined a
-among octets names paths path rest old new (NotKnowledge at) joined a = later paths names rest old path joined a
-among octets names paths path rest old new (NotCanonical at) joined a = later paths names rest old path joined a
+among octets names paths path rest old new (NotKnowledge refused at) joined a = later paths names rest old path joined a
+among octets names paths path rest old new (NotCanonical refused at) joined a = later paths names rest old path joined a
 among octets names paths path rest old new Memory joined a = later paths names rest old path joined a
 among octets names paths path rest old new NamesDiffer joined a = other_names paths names rest old path joined a
 among octets names paths path rest old new f joined a = absurd a
@@ -116,7 +117,7 @@ first_refused octets path rest g f r is of h = rw (is, of) (first path rest h)
 -- ---- what is printed
 
 pub kept : (s : Device) → IsUnchanged s s
-kept s = record { kept = Keeps-refl s.known; path = refl; sound = refl }
+kept s = record { kept = Keeps-refl s.known; path = refl; sound = refl; explains = refl }
 
 -- no fault of the files is one of the stream that is written, or of a record syntax
 abbrev pub IsOfReading : Fault → Type 0
@@ -127,8 +128,8 @@ IsOfReading _ = Unit {0}
 
 at_reading : (octets : List ℕ → Option (List ℕ)) (path : List ℕ) (f : Fault) → IsFaultAt octets path f → IsOfReading f
 at_reading octets path (Read told) h = tt
-at_reading octets path (NotKnowledge at) h = tt
-at_reading octets path (NotCanonical at) h = tt
+at_reading octets path (NotKnowledge refused at) h = tt
+at_reading octets path (NotCanonical refused at) h = tt
 at_reading octets path Memory h = tt
 at_reading octets path f h = absurd h
 
@@ -141,8 +142,8 @@ no_write octets paths f (other_names before names rest facts p joined other) = t
 told : (view : View) (octets : List ℕ → Option (List ℕ)) (paths : List (List ℕ)) (f : Fault) (old : Device)
     → IsRefusedAmong octets paths f → JoinResult view octets paths old old (Err f)
 told view octets paths (Read path) old h = (h, kept old)
-told view octets paths (NotKnowledge at) old h = (h, kept old)
-told view octets paths (NotCanonical at) old h = (h, kept old)
+told view octets paths (NotKnowledge refused at) old h = (h, kept old)
+told view octets paths (NotCanonical refused at) old h = (h, kept old)
 told view octets paths NamesDiffer old h = (h, kept old)
 told view octets paths Memory old h = kept old
 told view octets paths (Write path) old h = absurd (no_write octets paths (Write path) h)

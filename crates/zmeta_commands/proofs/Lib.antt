@@ -1,3 +1,5 @@
+mod Telling
+mod Asking
 pub mod OneShowing
 pub mod Showing
 pub mod Choosing

@@ -22,7 +22,7 @@ help_put known old new text (Err f) is h = absurd h
 pub told : (known : Option (List ℕ)) (old new : Device) (answer : Result (Unit {0}) Fault)
     → PutKnownResult old new known answer → IsTold known old new
 told None old new answer h = tt
-told (Some text) old new (Ok _) h = inr (record { written = h.0; path = h.1; sound = h.2 })
+told (Some text) old new (Ok _) h = inr (record { written = h.0; path = h.1; sound = h.2; explains = h.3 })
 told (Some text) old new (Err (Write path)) h = inl h.1
 told (Some text) old new (Err f) h = absurd h
 

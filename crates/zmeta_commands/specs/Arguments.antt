@@ -5,6 +5,7 @@ use Rattle.clap.specs.declared.error.Error.{Error}
 use Rattle.clap.specs.declared.error.kind.ErrorKind.{ErrorKind}
 use Rattle.clap.specs.declared.error.kind.ErrorKind.TheVariants as kinds
 use Rattle.zmeta_args.specs.declared.arguments.Arguments.{Arguments}
+use Rattle.zmeta_args.specs.declared.arguments.CommandLine.{CommandLine}
 use Rattle.zmeta_args.specs.declared.arguments.Arguments.TheVariants.{Show, Pqf, Join, Records, Run, Ask, Loop, Serve}
 use Rattle.zmeta_args.specs.Texts.{texts_of, now_of}
 use Rattle.zmeta_args.specs.Arguments.{IsParsed}
@@ -21,7 +22,7 @@ use Rattle.zmeta_commands.specs.Serve.{Serves, AfterServe}
 use Rattle.zmeta_commands.specs.Show.{AfterShow}
 use Rattle.zmeta_commands.specs.Faults.{as_done}
 use Rattle.zmeta_commands.specs.Files.{MadeFiles}
-use Rattle.zmeta_commands.specs.Devices.{Device, Outputs, Streams, written, IsUnchanged, IsBroken, HasGained, HasStopped, AfterTell, AfterEnd}
+use Rattle.zmeta_commands.specs.Devices.{Device, Outputs, Streams, written, explaining_streams, IsUnchanged, IsBroken, HasGained, HasStopped, AfterTell, AfterEnd}
 use Rattle.zmeta_commands.specs.declared.fault.Fault.{Fault}
 use Rattle.zmeta_commands.specs.declared.fault.Fault.TheVariants as faults
 use Rattle.zmeta_commands.specs.declared.fault.Status.{Status}
@@ -102,10 +103,10 @@ IsWrong status = (status ≡ statuses.Arguments) ⊎ (status ≡ statuses.Memory
 -- the files made, the streams and the status after the command that was parsed; or none was run, no file was made, and
 -- the input is unchanged
 abbrev pub AfterParsed
-    : Type 0 → Serves → (List ℕ → Option (List ℕ)) → List (List ℕ) → Result Arguments Error → MadeFiles → MadeFiles
+    : Type 0 → Serves → (List ℕ → Option (List ℕ)) → List (List ℕ) → Result CommandLine Error → MadeFiles → MadeFiles
     → Streams → Streams → Status → Type 0
-AfterParsed Stream serves octets arguments (Ok asked) old new before after status =
-    IsParsed arguments asked × AfterCall Stream serves octets asked old new before after status
+AfterParsed Stream serves octets arguments (Ok line) old new before after status = IsParsed arguments line
+    × AfterCall Stream serves octets line.command old new (explaining_streams line.explain before) after status
 AfterParsed Stream serves octets arguments (Err error) old new before after status =
     (new ≡ old) × (after.input ≡ before.input) × AfterUsage error (written before) (written after) status
 
@@ -114,4 +115,4 @@ abbrev pub AfterArguments
     : Type 0 → Serves → (List ℕ → Option (List ℕ)) → List (List ℕ) → MadeFiles → MadeFiles → Streams → Streams → Status
     → Type 0
 AfterArguments Stream serves octets arguments old new before after status =
-    (asked : Result Arguments Error) × AfterParsed Stream serves octets arguments asked old new before after status
+    (asked : Result CommandLine Error) × AfterParsed Stream serves octets arguments asked old new before after status

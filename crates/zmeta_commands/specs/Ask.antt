@@ -78,9 +78,9 @@ abbrev pub IsOfAsking : List ℕ → Fault → Type 0
 IsOfAsking path (Read failed) = failed.now ≡ path
 IsOfAsking path (Line number) = Unit {0}
 IsOfAsking path (NoQuestion unknown) = Unit {0}
-IsOfAsking path (Query kind at) = Unit {0}
-IsOfAsking path Wanted = Unit {0}
-IsOfAsking path Syntax = Unit {0}
+IsOfAsking path (Query kind at text) = Unit {0}
+IsOfAsking path (Wanted text) = Unit {0}
+IsOfAsking path (Syntax text) = Unit {0}
 IsOfAsking path Memory = Unit {0}
 IsOfAsking path _ = ⊥
 

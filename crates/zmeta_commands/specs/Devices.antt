@@ -1,20 +1,24 @@
 -- The streams and files that commands read and write, before and after a call.
-use Rattle.std.specs.Prelude.{◌≡◌, ◌⊎◌, ℕ, ◌<◌, List, ◌++◌, Option, Bool, true, Result, Ok, Err, MatchResult, IfSome, codes, nat_lt}
+use Rattle.std.specs.Prelude.{◌≡◌, ◌⊎◌, ℕ, ◌<◌, List, ◌++◌, Option, is_some, Bool, true, false, if◌then◌else◌, Result, Ok, Err, MatchResult}
+use Rattle.std.specs.Prelude.{IfSome, codes, nat_lt}
 use Rattle.std.specs.Io.KnownBytes.{Keeps, Appends}
 use Rattle.zoom.specs.Devices.{HasAppendedFront, HasFailed}
 use Rattle.zmeta_commands.specs.Counted.{counted_state}
 use Rattle.zmeta_commands.specs.Faults.{fault_text, end_status}
+use Rattle.zmeta_commands.specs.Explained.{words_line}
 use Rattle.zmeta_commands.specs.declared.fault.Fault.{Fault}
 use Rattle.zmeta_commands.specs.declared.fault.Fault.TheVariants.{Read, Write}
 use Rattle.zmeta_commands.specs.declared.fault.Status.{Status}
 use Rattle.zmeta_commands.specs.declared.input.Input.{Input}
 use Rattle.zmeta_commands.specs.declared.output.Output.{Output}
 
--- a stream that is written: the octets written, if known; its path; and how many calls of it failed
+-- a stream that is written: the octets written, if known; its path; how many calls of it failed; and whether faults are
+-- told in words, too
 pub record Device : Type 0 where
   pub known : Option (List ℕ)
   pub path : List ℕ
   pub failures : ℕ
+  pub explains : Bool
 
 -- a stream that is read: its octets left, if known; its path; and whether a call of it failed
 pub record InputDevice : Type 0 where
@@ -30,7 +34,7 @@ input_device remaining s = record { known = remaining s.reader; path = s.path.no
 abbrev pub output_device : {W : Type 0} → (W → Option (List ℕ)) → Output W → Device
 output_device contents s =
     let state = counted_state contents s.writer in
-    record { known = state.octets; path = s.path.now; failures = state.failures }
+    record { known = state.octets; path = s.path.now; failures = state.failures; explains = is_some s.words }
 
 -- a call of the stream failed, now or before
 abbrev pub has_broken : Device → Bool
@@ -46,6 +50,14 @@ pub record Streams : Type 0 where
   pub input : InputDevice
   pub output : Device
   pub errors : Device
+
+-- the stream, that tells faults in words if it did or that is wanted
+abbrev pub explaining : Bool → Device → Device
+explaining wanted s = record s { explains = if wanted then true else s.explains }
+
+-- the streams, of which standard error tells faults in words if it did or that is wanted
+abbrev pub explaining_streams : Bool → Streams → Streams
+explaining_streams wanted s = record s { errors = explaining wanted s.errors }
 
 -- those of the streams that are written
 abbrev pub written : Streams → Outputs
@@ -72,6 +84,7 @@ pub record IsUnchanged (old new : Device) : Type 0 where
   pub kept : Keeps old.known new.known
   pub path : new.path ≡ old.path
   pub sound : new.failures ≡ old.failures
+  pub explains : new.explains ≡ old.explains
 
 -- nothing was written to either stream
 abbrev pub AreUnwritten : Outputs → Outputs → Type 0
@@ -82,12 +95,14 @@ pub record HasGained (old new : Device) (text : List ℕ) : Type 0 where
   pub written : Appends old.known new.known text
   pub path : new.path ≡ old.path
   pub sound : new.failures ≡ old.failures
+  pub explains : new.explains ≡ old.explains
 
 -- a call of the stream failed after a front of the text was written
 pub record HasStopped (old new : Device) (text : List ℕ) : Type 0 where
   pub written : HasAppendedFront old.known new.known text
   pub path : new.path ≡ old.path
   pub failed : HasFailed old.failures new.failures
+  pub explains : new.explains ≡ old.explains
 
 -- the fault names the stream that failed after a front of the text was written
 abbrev pub PutFailure : Device → Device → List ℕ → Fault → Type 0
@@ -102,11 +117,13 @@ PutResult old new text result = MatchResult result (λ _. HasGained old new text
 pub record IsBroken (old new : Device) : Type 0 where
   pub path : new.path ≡ old.path
   pub failed : HasFailed old.failures new.failures
+  pub explains : new.explains ≡ old.explains
 
 -- a text, if it is known, was written and no call failed; or the fault names the stream, and a call of it failed
 abbrev pub PutKnownResult : Device → Device → Option (List ℕ) → Result (Unit {0}) Fault → Type 0
 PutKnownResult old new text (Ok _) =
     IfSome text (Appends old.known new.known) × (new.path ≡ old.path) × (new.failures ≡ old.failures)
+    × (new.explains ≡ old.explains)
 PutKnownResult old new text (Err (Write failed)) = (failed.now ≡ old.path) × IsBroken old new
 PutKnownResult old new text (Err _) = ⊥
 
@@ -114,9 +131,25 @@ PutKnownResult old new text (Err _) = ⊥
 abbrev pub fault_line : Fault → List ℕ
 fault_line f = codes "zmeta: " ++ fault_text f ++ codes "\n"
 
--- the line of a fault was written, or a call of the stream failed
+-- what is told of a fault: its line; where faults are told in words, the line of these too, if memory was found for it
+abbrev pub IsFaultText : Bool → Fault → List ℕ → Type 0
+IsFaultText explains f text =
+    (text ≡ fault_line f) ⊎ ((explains ≡ true) × (text ≡ fault_line f ++ words_line f))
+
+-- a fault was told, or a call of the stream failed
 abbrev pub AfterTell : Device → Device → Fault → Type 0
-AfterTell old new f = IsBroken old new ⊎ HasGained old new (fault_line f)
+AfterTell old new f =
+    IsBroken old new ⊎ ((text : List ℕ) × IsFaultText old.explains f text × HasGained old new text)
+
+-- whether the line of a fault was written; if not, a call of the stream failed
+abbrev pub ShowFaultResult : Device → Device → Fault → Bool → Type 0
+ShowFaultResult old new f true = HasGained old new (fault_line f)
+ShowFaultResult old new f false = IsBroken old new
+
+-- words for a fault were written, where faults are told so and memory was found; nothing else, unless a call failed
+abbrev pub AfterWords : Device → Device → Fault → Type 0
+AfterWords old new f =
+    IsBroken old new ⊎ IsUnchanged old new ⊎ ((old.explains ≡ true) × HasGained old new (words_line f))
 
 -- the lines were written, or a front of them before a call of the stream failed
 abbrev pub AfterTellLines : Device → Device → List ℕ → Type 0

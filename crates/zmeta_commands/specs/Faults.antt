@@ -1,5 +1,6 @@
 -- The texts and statuses of faults.
-use Rattle.std.specs.Prelude.{ℕ, List, ◌++◌, Bool, true, false, Result, Ok, Err, codes}
+use Rattle.std.specs.Prelude.{ℕ, List, ◌++◌, Bool, true, false, Option, Some, None, Result, Ok, Err, codes}
+use Rattle.std.specs.Borrow.{Bor}
 use Rattle.std.specs.Fmt.{decimal}
 use Rattle.zber.specs.Faults.{fault_kind_name}
 use Rattle.zber.specs.declared.fault.FrameError.{FrameError}
@@ -18,6 +19,7 @@ use Rattle.zquery.specs.declared.notation.print.PrintError.TheVariants as prints
 use Rattle.zknow.specs.declared.saved.loading.LoadError.{LoadError}
 use Rattle.zknow.specs.declared.saved.loading.LoadError.TheVariants as loads
 use Rattle.zknow.specs.Saved.Refusals.{load_error_name}
+use Rattle.zmeta_args.specs.declared.arguments.SearchOptions.{SearchOptions}
 use Rattle.zmeta_world.specs.declared.world.WorldError.{WorldError}
 use Rattle.zmeta_world.specs.declared.world.WorldError.TheVariants as worlds
 use Rattle.zmeta_world.specs.declared.search.SearchError.{SearchError}
@@ -47,16 +49,16 @@ fault_text Hex = codes "hex refused"
 fault_text (Frame kind at) = fault_kind_name kind ++ codes " at " ++ decimal at
 fault_text NotApdu = codes "not an APDU"
 fault_text (Malformed kind at) = apdu_kind_name kind ++ codes " malformed at " ++ decimal at
-fault_text (Query kind at) = pqf_kind_name kind ++ codes " at " ++ decimal at
+fault_text (Query kind at text) = pqf_kind_name kind ++ codes " at " ++ decimal at
 fault_text NotPrintable = codes "not printable"
-fault_text (NotKnowledge at) =
+fault_text (NotKnowledge path at) =
     codes "knowledge refused: " ++ load_error_name (loads.NotKnowledge at) ++ codes " at " ++ decimal at
-fault_text (NotCanonical at) =
+fault_text (NotCanonical path at) =
     codes "knowledge refused: " ++ load_error_name (loads.NotCanonical at) ++ codes " at " ++ decimal at
 fault_text NamesDiffer = codes "names differ"
 fault_text (Line number) = codes "line " ++ decimal number ++ codes " refused"
-fault_text Wanted = codes "--records refused"
-fault_text Syntax = codes "--syntax refused"
+fault_text (Wanted text) = codes "--records refused"
+fault_text (Syntax text) = codes "--syntax refused"
 fault_text (NoQuestion name) = codes "no question " ++ name.now
 fault_text (NoCatalogue name) = codes "no catalogue " ++ name.now
 fault_text (NotOid text) = codes "no OID " ++ text.now
@@ -77,7 +79,7 @@ of_apdu apdus.Memory = Memory
 -- the fault for an error of the prefix notation at this octet
 abbrev pub of_kind : PqfErrorKind → ℕ → Fault
 of_kind queries.Memory at = Memory
-of_kind kind at = Query kind at
+of_kind kind at = Query kind at None
 
 -- the fault for a text that is no query
 abbrev pub of_query : PqfError → Fault
@@ -93,11 +95,23 @@ abbrev pub of_build : BuildError → Fault
 of_build builds.NotSpellable = NotPrintable
 of_build builds.Memory = Memory
 
--- the fault for a saved file that is refused
-abbrev pub of_load : LoadError → Fault
-of_load (loads.NotKnowledge at) = NotKnowledge at
-of_load (loads.NotCanonical at) = NotCanonical at
-of_load loads.Memory = Memory
+-- the fault for a saved file at a path that is refused
+abbrev pub of_load : Bor (List ℕ) → LoadError → Fault
+of_load path (loads.NotKnowledge at) = NotKnowledge path at
+of_load path (loads.NotCanonical at) = NotCanonical path at
+of_load path loads.Memory = Memory
+
+-- the fault with the text of the query that it speaks of
+abbrev pub of_text : Bor (List ℕ) → Fault → Fault
+of_text text (Query kind at old) = Query kind at (Some text)
+of_text text f = f
+
+-- the fault of a search with the text of the option that it speaks of
+abbrev pub of_options : SearchOptions → Fault → Fault
+of_options s (Query kind at old) = Query kind at s.query
+of_options s (Wanted old) = Wanted s.records
+of_options s (Syntax old) = Syntax s.syntax
+of_options s f = f
 
 -- the fault for a world file that is refused
 abbrev pub of_world : WorldError → Fault
@@ -106,9 +120,9 @@ of_world worlds.Memory = Memory
 
 -- the fault for a search that cannot be put to the questions
 abbrev pub of_search : SearchError → Fault
-of_search (searches.Query kind at) = Query kind at
-of_search searches.Records = Wanted
-of_search searches.Syntax = Syntax
+of_search (searches.Query kind at) = Query kind at None
+of_search searches.Records = Wanted None
+of_search searches.Syntax = Syntax None
 of_search searches.Memory = Memory
 
 -- the fault for a target that cannot be served

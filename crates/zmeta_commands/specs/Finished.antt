@@ -1,11 +1,13 @@
 -- The end of a command that asks: what it prints, reports and saves, and its status.
 use Rattle.std.specs.Prelude.{◌≡◌, ◌⊎◌, ℕ, ◌+◌, ◌<◌, ◌^◌, Bool, true, false, not, ◌||◌, List, [], ◌∷◌, ◌++◌, length}
-use Rattle.std.specs.Prelude.{codes, slice_get, Option, Some, None, Result, Ok, Err, IfSome, IfErr}
+use Rattle.std.specs.Prelude.{codes, slice_get, if◌then◌else◌, Option, Some, None, Result, Ok, Err, IfSome, IfErr}
+use Rattle.std.specs.Option.{unwrap_or}
 use Rattle.zapdu.specs.Text.{quoted}
 use Rattle.zmeta_args.specs.declared.arguments.View.{View}
 use Rattle.zknow.specs.Known.{HasFailure}
 use Rattle.zknow_stops.specs.declared.stop.Stop.{Stop}
 use Rattle.zoom.specs.Limits.{Limits}
+use Rattle.zmeta_commands.specs.Explained.{stop_line}
 use Rattle.zmeta_commands.specs.Stops.{AreStops}
 use Rattle.zmeta_commands.specs.Views.{printed}
 use Rattle.zknow.specs.Saved.Saved.{IsSaved, HasTooDeep, HasTooLong}
@@ -21,6 +23,7 @@ use Rattle.zmeta_commands.specs.declared.fault.Fault.{Fault}
 use Rattle.zmeta_commands.specs.declared.fault.Fault.TheVariants.{Read, Write, Line, Memory, Query, Wanted, Syntax}
 use Rattle.zmeta_commands.specs.declared.fault.Status.{Status}
 use Rattle.zmeta_commands.specs.declared.fault.Status.TheVariants as statuses
+use Rattle.zmeta_commands.specs.declared.failures.Told.{Told as Telling}
 use Rattle.zmeta_commands.specs.declared.finished.Finished.{Finished}
 
 -- the program's name as an origin
@@ -34,9 +37,8 @@ pub record IsListed (limits : Limits) (meta : MetaLinks) (names : List (List ℕ
   pub of : r.meta ≡ meta
   pub at : r.addresses.items ≡ addresses
   pub named : r.names ≡ names
-  pub stops : List (Option Stop)
-  pub stopped : AreStops limits meta stops
-  pub list : r.list.items ≡ printed names view stops meta.pool.knowledge
+  pub stopped : AreStops limits meta r.stops.items
+  pub list : r.list.items ≡ printed names view r.stops.items meta.pool.knowledge
 
 -- each connection has a name, and there are fewer than 2 ^ 32
 pub record HasNames (r : Finished) : Type 0 where
@@ -51,17 +53,44 @@ failure_line name (states.Failed reason) =
     codes "zmeta: target " ++ quoted name ++ codes ": " ++ reason_name reason ++ codes "\n"
 failure_line name _ = []
 
+-- what is told in words of connections: nothing, or why they stopped, by the addresses that the questions were put to
+pub record Told : Type 0 where
+  pub explains : Bool
+  pub addresses : List (Option (List ℕ))
+  pub stops : List (Option Stop)
+
+-- the same, as a call takes it
+abbrev pub told_at : Telling → Told
+told_at t = record { explains = t.explains; addresses = t.addresses.now; stops = t.stops.now }
+
+-- the address of a question, if it has one
+abbrev pub address_at : List (Option (List ℕ)) → ℕ → Option (List ℕ)
+address_at addresses c = unwrap_or (slice_get addresses c) None
+
+-- why a connection stopped, if it did
+abbrev pub stop_at : List (Option Stop) → ℕ → Option Stop
+stop_at stops c = unwrap_or (slice_get stops c) None
+
+-- the line that tells in words why a connection to the target of this name stopped, if that is to be told
+abbrev pub told_line : Told → ℕ → List ℕ → List ℕ
+told_line t c name = if t.explains then stop_line name (address_at t.addresses c) (stop_at t.stops c) else []
+
 -- the lines of the connections from this number on, with the names of their targets
-abbrev pub AreLinesFrom : MetaLinks → ℕ → List (List ℕ) → List ℕ → Type 0
-AreLinesFrom meta c [] text = text ≡ []
-AreLinesFrom meta c (name ∷ names) text =
-    (state : State) × (rest : List ℕ) × IsStateAt c meta.pool state × AreLinesFrom meta (c + 1) names rest
-    × (text ≡ failure_line name state ++ rest)
+abbrev pub AreLinesFrom : Told → MetaLinks → ℕ → List (List ℕ) → List ℕ → Type 0
+AreLinesFrom t meta c [] text = text ≡ []
+AreLinesFrom t meta c (name ∷ names) text =
+    (state : State) × (rest : List ℕ) × IsStateAt c meta.pool state × AreLinesFrom t meta (c + 1) names rest
+    × (text ≡ (failure_line name state ++ told_line t c name) ++ rest)
+
+-- what is told in words of finished connections
+abbrev pub told_of : Bool → Finished → Told
+told_of explains r = record { explains = explains; addresses = r.addresses.items; stops = r.stops.items }
 
 -- the whole list was written, and the failed connections were reported
 abbrev pub IsPrinted : Finished → Outputs → Outputs → Type 0
 IsPrinted r before after = HasGained before.output after.output r.list.items
-    × ((lines : List ℕ) × AreLinesFrom r.meta 0 r.names lines × AfterTellLines before.errors after.errors lines)
+    × ((lines : List ℕ) × AreLinesFrom (told_of before.errors.explains r) r.meta 0 r.names lines
+    × AfterTellLines before.errors after.errors lines)
 
 -- a front of the list was written, and nothing was reported yet
 abbrev pub IsPartlyPrinted : Finished → Outputs → Outputs → Type 0
@@ -216,9 +245,9 @@ IsOfWorld path _ = ⊥
 
 -- a fault of the world file at a path, or what is put to its questions is refused
 abbrev pub IsOfSearchedWorld : List ℕ → Fault → Type 0
-IsOfSearchedWorld path (Query kind at) = Unit {0}
-IsOfSearchedWorld path Wanted = Unit {0}
-IsOfSearchedWorld path Syntax = Unit {0}
+IsOfSearchedWorld path (Query kind at text) = Unit {0}
+IsOfSearchedWorld path (Wanted text) = Unit {0}
+IsOfSearchedWorld path (Syntax text) = Unit {0}
 IsOfSearchedWorld path f = IsOfWorld path f
 
 -- the files made, the streams and the status after the questions were asked with this result: its end, or nothing but

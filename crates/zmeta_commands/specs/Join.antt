@@ -20,8 +20,8 @@ use Rattle.zmeta_commands.specs.declared.fault.Status.TheVariants as statuses
 -- the facts and names of a file, or why it is refused
 abbrev pub LoadFileResult : List ℕ → Result (List Fact × List (List ℕ)) Fault → Type 0
 LoadFileResult file (Ok r) = IsSaved r.1 r.0 file
-LoadFileResult file (Err (NotKnowledge at)) = IsNotKnowledge file at
-LoadFileResult file (Err (NotCanonical at)) = IsNotCanonical file at
+LoadFileResult file (Err (NotKnowledge path at)) = IsNotKnowledge file at
+LoadFileResult file (Err (NotCanonical path at)) = IsNotCanonical file at
 LoadFileResult file (Err (Read path)) = Unit {0}
 LoadFileResult file (Err Memory) = Unit {0}
 LoadFileResult file (Err _) = ⊥
@@ -29,8 +29,8 @@ LoadFileResult file (Err _) = ⊥
 -- a fault of the file at a path: it cannot be read, is no saved file, or no memory was found
 abbrev pub IsOfFile : List ℕ → Fault → Type 0
 IsOfFile path (Read failed) = failed.now ≡ path
-IsOfFile path (NotKnowledge at) = Unit {0}
-IsOfFile path (NotCanonical at) = Unit {0}
+IsOfFile path (NotKnowledge refused at) = refused.now ≡ path
+IsOfFile path (NotCanonical refused at) = refused.now ≡ path
 IsOfFile path Memory = Unit {0}
 IsOfFile path _ = ⊥
 
@@ -43,8 +43,10 @@ module _ (octets : List ℕ → Option (List ℕ)) where
   -- the fault of the file at the path
   abbrev pub IsFaultAt : List ℕ → Fault → Type 0
   IsFaultAt path (Read failed) = failed.now ≡ path
-  IsFaultAt path (NotKnowledge at) = IfSome (octets path) (λ file. IsNotKnowledge file at)
-  IsFaultAt path (NotCanonical at) = IfSome (octets path) (λ file. IsNotCanonical file at)
+  IsFaultAt path (NotKnowledge refused at) =
+      (refused.now ≡ path) × IfSome (octets path) (λ file. IsNotKnowledge file at)
+  IsFaultAt path (NotCanonical refused at) =
+      (refused.now ≡ path) × IfSome (octets path) (λ file. IsNotCanonical file at)
   IsFaultAt path Memory = Unit {0}
   IsFaultAt path _ = ⊥
 

@@ -2,6 +2,7 @@ pub mod Ask
 pub mod Choice
 pub mod Counted
 pub mod Devices
+pub mod Explained
 pub mod Digits
 pub mod Faults
 pub mod Files

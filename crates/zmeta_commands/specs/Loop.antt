@@ -21,9 +21,9 @@ IsOfNetwork _ = ⊥
 abbrev pub IsOfLoop : List ℕ → Fault → Type 0
 IsOfLoop path (Read failed) = failed.now ≡ path
 IsOfLoop path (Line number) = Unit {0}
-IsOfLoop path (Query kind at) = Unit {0}
-IsOfLoop path Wanted = Unit {0}
-IsOfLoop path Syntax = Unit {0}
+IsOfLoop path (Query kind at text) = Unit {0}
+IsOfLoop path (Wanted text) = Unit {0}
+IsOfLoop path (Syntax text) = Unit {0}
 IsOfLoop path Serve = Unit {0}
 IsOfLoop path Memory = Unit {0}
 IsOfLoop path _ = ⊥

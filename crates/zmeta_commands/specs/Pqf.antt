@@ -9,6 +9,7 @@ use Rattle.zquery.specs.Notation.Texts.{IsText, IsTextFault}
 use Rattle.zquery.specs.Notation.Printing.{query_text}
 use Rattle.zquery.specs.Element.Type1.{WritesQuery}
 use Rattle.zquery.specs.Element.Type1Reading.{query_spelling}
+use Rattle.zmeta_args.specs.Texts.{now_of}
 use Rattle.zmeta_commands.specs.Faults.{as_done}
 use Rattle.zmeta_commands.specs.Devices.{Device, Outputs, IsUnchanged, HasGained, HasStopped, AfterEnd}
 use Rattle.zmeta_commands.specs.declared.fault.Fault.{Fault}
@@ -40,7 +41,7 @@ PutBothResult q old new (Err e) = e ≡ Memory
 abbrev pub PutQueryResult : List ℕ → List ℕ → List ℕ → Result (Unit {0}) Fault → Type 0
 PutQueryResult text old new (Ok _) = (q : RpnQuery) × (n : Element) × IsQueryOf text q × IsElementOf q n
     × (new ≡ old ++ query_lines q n)
-PutQueryResult text old new (Err (Query kind at)) = IsTextFault text (record { at = at; kind = kind })
+PutQueryResult text old new (Err (Query kind at told)) = IsTextFault text (record { at = at; kind = kind })
 PutQueryResult text old new (Err Memory) = Unit {0}
 PutQueryResult text old new (Err _) = ⊥
 
@@ -51,7 +52,8 @@ AreLinesOf text lines = (q : RpnQuery) × (n : Element) × IsQueryOf text q × I
 -- the result of `pqf`, and the stream after it
 abbrev pub PqfResult : List ℕ → Device → Device → Result (Unit {0}) Fault → Type 0
 PqfResult text old new (Ok _) = (lines : List ℕ) × AreLinesOf text lines × HasGained old new lines
-PqfResult text old new (Err (Query kind at)) = IsTextFault text (record { at = at; kind = kind }) × IsUnchanged old new
+PqfResult text old new (Err (Query kind at told)) =
+    (now_of told ≡ Some text) × IsTextFault text (record { at = at; kind = kind }) × IsUnchanged old new
 PqfResult text old new (Err Memory) = IsUnchanged old new
 PqfResult text old new (Err (Write path)) =
     (path.now ≡ old.path) × ((lines : List ℕ) × AreLinesOf text lines × HasStopped old new lines)

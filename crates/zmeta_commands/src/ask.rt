@@ -42,7 +42,7 @@ pub fn ask_named<'a, 'o: 'a, S: Folder + Net + Clock, W: Write, E: Write, P: Wri
     system: &mut S,
     paths: Paths<'a>,
     choice: Choice<'a, '_>,
-    search: &SearchOptions<'_>,
+    search: &SearchOptions<'a>,
     view: View,
     screen: Option<P>,
     output: &mut Output<'o, W>,
@@ -63,7 +63,7 @@ fn ask_file<'a, S: Folder + Net + Clock, P: Write + Drop>(
     system: &S,
     path: &'a str,
     choice: Choice<'a, '_>,
-    search: &SearchOptions<'_>,
+    search: &SearchOptions<'a>,
     view: View,
     screen: Option<P>,
 ) -> Result<Finished, Fault<'a>>
@@ -81,7 +81,7 @@ fn read_network<'a, F: Folder>(
     alloc: Global,
     files: &F,
     path: &'a str,
-    search: &SearchOptions<'_>,
+    search: &SearchOptions<'a>,
 ) -> Result<NetworkRun, Fault<'a>>
     ensures network { IfSome (F.octets files.now path.entry.now)
         (λ octets. ReadNetworkResult (search_of search.now) octets result) }

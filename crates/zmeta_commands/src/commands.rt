@@ -1,6 +1,6 @@
 //! From the arguments of the command line to the command that they ask for.
 ghost use Rattle.std.specs.Prelude.{◌≡◌, Err, IfErr, IfOk, MatchResult, map, string_bytes};
-ghost use Rattle.zmeta_commands.specs.Devices.{output_device, outputs, streams};
+ghost use Rattle.zmeta_commands.specs.Devices.{output_device, outputs, streams, explaining_streams};
 ghost use Rattle.zmeta_commands.specs.Arguments.{AfterCall, AfterArguments, AfterUsage, IsWrong};
 ghost use Rattle.zmeta_commands.specs.Serve.{ServedAt};
 
@@ -25,7 +25,7 @@ use std::alloc::Global;
 use std::io::{ErrorKind, Read, Write};
 use std::net::Net;
 use std::time::Clock;
-use zmeta_args::{Arguments, odd_arguments, parse};
+use zmeta_args::{Arguments, CommandLine, odd_arguments, parse};
 
 /// Runs the command that the arguments ask for: `arguments[0]` is the program's name and `arguments[1]` that of
 /// the command.
@@ -85,23 +85,26 @@ fn run_arguments<'a, S: Folder + Doors + Net + Clock, R: Read, W: Write, E: Writ
 fn run_parsed<'a, S: Folder + Doors + Net + Clock, R: Read, W: Write, E: Write, P: Write + Drop>(
     alloc: Global,
     system: &mut S,
-    asked: Result<Arguments<'_>, Error>,
+    asked: Result<CommandLine<'_>, Error>,
     input: &mut Input<'a, R>,
     output: &mut Output<'a, W>,
     errors: &mut Output<'a, E>,
     screen: Option<P>,
 ) -> Status
     ensures { MatchResult asked.entry
-        (λ asked. AfterCall S.Stream (ServedAt S S.Client S.IsAt (S.IsShut system.old)) (S.octets system.old) asked
+        (λ line. AfterCall S.Stream (ServedAt S S.Client S.IsAt (S.IsShut system.old)) (S.octets system.old) line.command
         (S.made system.old) (S.made system.new)
-        (streams R.remaining W.contents E.contents input.old output.old errors.old)
+        (explaining_streams line.explain (streams R.remaining W.contents E.contents input.old output.old errors.old))
         (streams R.remaining W.contents E.contents input.new output.new errors.new) result)
         (λ error. (S.made system.new ≡ S.made system.old) × (input.new ≡ input.old)
         × AfterUsage error (outputs W.contents E.contents output.old errors.old)
         (outputs W.contents E.contents output.new errors.new) result) }
 {
     match asked {
-        Ok(asked) => call(alloc, system, asked, input, output, errors, screen),
+        Ok(line) => {
+            errors.explain(alloc, line.explain);
+            call(alloc, system, line.command, input, output, errors, screen)
+        }
         Err(error) => print_usage(alloc, &error, output, errors),
     }
 }

@@ -1,6 +1,6 @@
 //! Why a command stopped, and the status that it ends with.
 ghost use Rattle.std.specs.Prelude.{◌≡◌, Some};
-ghost use Rattle.zmeta_commands.specs.Faults.{code_of, status_of, own_status, as_done, fault_text, of_frame, of_apdu, of_query, of_print, of_build, of_load, of_world, of_search, of_serve};
+ghost use Rattle.zmeta_commands.specs.Faults.{code_of, status_of, own_status, as_done, fault_text, of_frame, of_apdu, of_query, of_print, of_build, of_load, of_options, of_text, of_world, of_search, of_serve};
 ghost use Rattle.zmeta_commands.specs.Devices.{output_device, AfterTell, AfterReport, AfterEnd};
 ghost use Rattle.zmeta_commands.specs.declared.fault.Fault.TheVariants.{Memory};
 
@@ -11,6 +11,7 @@ use std::io::Write;
 use zapdu::{ApduError, Kind};
 use zber::{FaultKind, FrameError};
 use zknow::LoadError;
+use zmeta_args::SearchOptions;
 use zmeta_world::search::SearchError;
 use zmeta_world::world::WorldError;
 use zoom::ServeError;
@@ -70,28 +71,45 @@ pub enum Fault<'a> {
     /// The text is not an even number of hexadecimal digits.
     Hex,
     /// The octets do not begin with a message. `at` counts octets from the first of the message.
-    Frame { kind: FaultKind, at: usize },
+    Frame {
+        kind: FaultKind,
+        at: usize,
+    },
     /// The message is not an APDU that the program knows.
     NotApdu,
     /// The message has the tag of an APDU, but is malformed at this element.
-    Malformed { kind: Kind, at: usize },
-    /// The text is not a query. `at` counts octets from the first of the text.
-    Query { kind: PqfErrorKind, at: usize },
+    Malformed {
+        kind: Kind,
+        at: usize,
+    },
+    /// The text is not a query. `at` counts octets from the first of the text, which is `None` for a query that terms
+    /// make.
+    Query {
+        kind: PqfErrorKind,
+        at: usize,
+        text: Option<&'a str>,
+    },
     /// The query has no text in the prefix notation.
     NotPrintable,
-    /// A saved file has no valid element at this index.
-    NotKnowledge { at: usize },
-    /// A saved file has an element at this index that is not in canonical form, or is out of order.
-    NotCanonical { at: usize },
+    /// The saved file at this path has no valid element at this index.
+    NotKnowledge {
+        path: &'a str,
+        at: usize,
+    },
+    /// The saved file at this path has an element at this index that is not in canonical form, or is out of order.
+    NotCanonical {
+        path: &'a str,
+        at: usize,
+    },
     /// Two saved files have different names for their targets.
     NamesDiffer,
     /// The line of a world file, from 1, is refused. It is no valid line, cannot follow the lines before it, or
     /// asks a target or host that the command does not ask.
     Line(u64),
-    /// The text of `--records` names no wanted positions.
-    Wanted,
-    /// The text of `--syntax` is no record syntax that a question can have.
-    Syntax,
+    /// The text of `--records` names no wanted positions. `None` if the text is not known here.
+    Wanted(Option<&'a str>),
+    /// The text of `--syntax` is no record syntax that a question can have. `None` if the text is not known here.
+    Syntax(Option<&'a str>),
     /// No question has this name.
     NoQuestion(&'a str),
     /// No catalogue of the saved files has this name.
@@ -121,23 +139,23 @@ impl fmt::Display for Fault<'_> {
                 let word = kind.name();
                 write!(f, "{word} malformed at {at}")
             }
-            Fault::Query { kind, at } => {
+            Fault::Query { kind, at, .. } => {
                 let word = kind.name();
                 write!(f, "{word} at {at}")
             }
             Fault::NotPrintable => write!(f, "not printable"),
-            Fault::NotKnowledge { at } => {
+            Fault::NotKnowledge { at, .. } => {
                 let word = LoadError::NotKnowledge { at: *at }.name();
                 write!(f, "knowledge refused: {word} at {at}")
             }
-            Fault::NotCanonical { at } => {
+            Fault::NotCanonical { at, .. } => {
                 let word = LoadError::NotCanonical { at: *at }.name();
                 write!(f, "knowledge refused: {word} at {at}")
             }
             Fault::NamesDiffer => write!(f, "names differ"),
             Fault::Line(number) => write!(f, "line {number} refused"),
-            Fault::Wanted => write!(f, "--records refused"),
-            Fault::Syntax => write!(f, "--syntax refused"),
+            Fault::Wanted(_) => write!(f, "--records refused"),
+            Fault::Syntax(_) => write!(f, "--syntax refused"),
             Fault::NoQuestion(name) => write!(f, "no question {name}"),
             Fault::NoCatalogue(name) => write!(f, "no catalogue {name}"),
             Fault::NotOid(text) => write!(f, "no OID {text}"),
@@ -184,7 +202,11 @@ impl From<PqfError> for Fault<'_> {
     fn from(error: PqfError) -> Self {
         match error.kind {
             PqfErrorKind::Memory => Fault::Memory,
-            kind => Fault::Query { kind, at: error.at },
+            kind => Fault::Query {
+                kind,
+                at: error.at,
+                text: None,
+            },
         }
     }
 }
@@ -211,18 +233,6 @@ impl From<BuildError> for Fault<'_> {
     }
 }
 
-impl From<LoadError> for Fault<'_> {
-    ghost from_gives = { λ e f. f ≡ of_load e };
-
-    fn from(error: LoadError) -> Self {
-        match error {
-            LoadError::NotKnowledge { at } => Fault::NotKnowledge { at },
-            LoadError::NotCanonical { at } => Fault::NotCanonical { at },
-            LoadError::Memory => Fault::Memory,
-        }
-    }
-}
-
 impl From<WorldError> for Fault<'_> {
     ghost from_gives = { λ e f. f ≡ of_world e };
 
@@ -239,9 +249,13 @@ impl From<SearchError> for Fault<'_> {
 
     fn from(error: SearchError) -> Self {
         match error {
-            SearchError::Query { kind, at } => Fault::Query { kind, at },
-            SearchError::Records => Fault::Wanted,
-            SearchError::Syntax => Fault::Syntax,
+            SearchError::Query { kind, at } => Fault::Query {
+                kind,
+                at,
+                text: None,
+            },
+            SearchError::Records => Fault::Wanted(None),
+            SearchError::Syntax => Fault::Syntax(None),
             SearchError::Memory => Fault::Memory,
         }
     }
@@ -258,7 +272,48 @@ impl From<ServeError> for Fault<'_> {
     }
 }
 
-impl Fault<'_> {
+impl<'a> Fault<'a> {
+    /// Returns the fault of the saved file at this path.
+    pub(crate) fn of_load(path: &'a str, error: LoadError) -> Fault<'a>
+        ensures { result ≡ of_load path.entry error }
+    {
+        match error {
+            LoadError::NotKnowledge { at } => Fault::NotKnowledge { path, at },
+            LoadError::NotCanonical { at } => Fault::NotCanonical { path, at },
+            LoadError::Memory => Fault::Memory,
+        }
+    }
+
+    /// Returns the fault of a search with the text of the option that it speaks of.
+    pub(crate) fn of_options(self, search: &SearchOptions<'a>) -> Fault<'a>
+        ensures { result ≡ of_options search.now self.entry }
+    {
+        match self {
+            Fault::Query { kind, at, .. } => Fault::Query {
+                kind,
+                at,
+                text: search.query,
+            },
+            Fault::Wanted(_) => Fault::Wanted(search.records),
+            Fault::Syntax(_) => Fault::Syntax(search.syntax),
+            other => other,
+        }
+    }
+
+    /// Returns the fault with the text of the query that it speaks of.
+    pub(crate) fn of_text(self, text: &'a str) -> Fault<'a>
+        ensures { result ≡ of_text text.entry self.entry }
+    {
+        match self {
+            Fault::Query { kind, at, .. } => Fault::Query {
+                kind,
+                at,
+                text: Some(text),
+            },
+            other => other,
+        }
+    }
+
     /// Returns the status of a command that this fault stopped.
     fn status(&self) -> Status
         ensures { result ≡ status_of self.now }

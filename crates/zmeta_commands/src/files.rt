@@ -4,6 +4,7 @@ ghost use Rattle.std.specs.Prelude.{◌≡◌, ℕ, List, Option, None, IfOk};
 ghost use Rattle.zmeta_commands.specs.Files.{opened_left, MadeFile, MakeResult};
 
 use crate::input::Input;
+use std::alloc::{AllocError, Global};
 use std::fs::File;
 use std::io::{ErrorKind, Read, Write};
 use std::{fs, io};
@@ -61,9 +62,9 @@ fn write_over(files: &HostRuntime, path: &str, contents: &[u8]) -> io::Result<()
 
 /// Makes a file beside the path, and then gives it the path. Where none can be made beside it, writes at the path.
 fn replace(files: &HostRuntime, path: &str, contents: &[u8]) -> io::Result<()> {
-    let mut beside = String::new(files.alloc());
-    beside.push_str(path)?;
-    beside.push_str(".part")?;
+    let Ok(beside) = path_beside(files.alloc(), path) else {
+        return write_over(files, path, contents);
+    };
     // A run that was broken off may have left one.
     let _ = fs::remove_file(files, beside.as_str());
     let Ok(file) = File::create_new(files, beside.as_str()) else {
@@ -78,6 +79,14 @@ fn replace(files: &HostRuntime, path: &str, contents: &[u8]) -> io::Result<()> {
         let _ = fs::remove_file(files, beside.as_str());
     }
     moved
+}
+
+/// Returns the path of the file that is made beside a path.
+fn path_beside(alloc: Global, path: &str) -> Result<String, AllocError> {
+    let mut beside = String::new(alloc);
+    beside.push_str(path)?;
+    beside.push_str(".part")?;
+    Ok(beside)
 }
 
 /// Writes the contents of a new file, which gets the permissions of an older one at the path.

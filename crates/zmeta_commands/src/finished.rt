@@ -5,7 +5,7 @@ ghost use Rattle.std.specs.Option.{option_map};
 ghost use Rattle.zmeta_commands.specs.Devices.{outputs};
 ghost use Rattle.zmeta_commands.specs.Finished.{HasNames, IsListed, PutFinishedResult, SavedOctetsResult, MakeFileResult, SaveResult, FinishResult, AfterAsked};
 
-use crate::failures::failure_lines;
+use crate::failures::{Told, failure_lines};
 use crate::fault::{Fault, Status, end, report_failure};
 use crate::files::Folder;
 use crate::output::Output;
@@ -16,6 +16,7 @@ use bytes::Bytes;
 use std::alloc::{AllocError, Global};
 use std::io::Write;
 use zknow::{Names, SaveError, save};
+use zknow_stops::Stop;
 use zmeta_args::View;
 use zoom::{Limits, Meta, Notice};
 
@@ -32,6 +33,8 @@ pub(crate) struct Finished {
     /// The address of each question to a host, or `None` for a question that was not chosen. Empty if targets in
     /// memory were asked.
     pub addresses: Vec<Option<Bytes>>,
+    /// Why each connection stopped, or `None`.
+    pub stops: Vec<Option<Stop>>,
     /// The printed list of the facts.
     pub list: Vec<u8>,
 }
@@ -74,6 +77,7 @@ impl Finished {
             meta,
             names,
             addresses,
+            stops,
             list,
         })
     }
@@ -90,7 +94,12 @@ fn put_finished<'o, W: Write, E: Write>(
     ensures { PutFinishedResult finished.now (outputs W.contents E.contents output.old errors.old)
         (outputs W.contents E.contents output.new errors.new) result }
 {
-    let lines = failure_lines(alloc, &finished.meta, finished.names.as_slice())?;
+    let told = Told {
+        explains: errors.explains(),
+        addresses: finished.addresses.as_slice(),
+        stops: finished.stops.as_slice(),
+    };
+    let lines = failure_lines(alloc, &finished.meta, finished.names.as_slice(), &told)?;
     output.put(finished.list.as_slice())?;
     errors.put_lines(lines.as_slice());
     Ok(())

@@ -160,7 +160,10 @@ fn load_file<'a, R: Read>(
     ensures fault { IfErr result (λ f. IsOfFile file.old.path.now f) }
 {
     let octets = file.read_all(alloc)?;
-    Ok(load(alloc, octets.as_slice())?)
+    match load(alloc, octets.as_slice()) {
+        Ok(known) => Ok(known),
+        Err(error) => Err(Fault::of_load(file.path, error)),
+    }
 }
 
 fn are_same(names: &Names, others: &Names) -> bool

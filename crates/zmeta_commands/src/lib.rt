@@ -8,6 +8,7 @@ pub mod commands;
 mod counted;
 mod digits;
 pub mod doors;
+mod explained;
 pub mod failures;
 pub mod fault;
 pub mod files;

@@ -29,7 +29,7 @@ pub fn loop_named<'a, 'o: 'a, S: Folder + Net, W: Write, E: Write>(
     alloc: Global,
     system: &mut S,
     paths: Paths<'a>,
-    search: &SearchOptions<'_>,
+    search: &SearchOptions<'a>,
     view: View,
     output: &mut Output<'o, W>,
     errors: &mut Output<'_, E>,
@@ -48,7 +48,7 @@ fn loop_file<'a, S: Folder + Net>(
     alloc: Global,
     system: &S,
     path: &'a str,
-    search: &SearchOptions<'_>,
+    search: &SearchOptions<'a>,
     view: View,
 ) -> Result<Finished, Fault<'a>>
     ensures ran { IfSome (S.octets system.now path.entry.now)

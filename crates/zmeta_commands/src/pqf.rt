@@ -29,22 +29,22 @@ pub fn pqf<W: Write, E: Write>(
     ensures { AfterPqf text.now (outputs W.contents E.contents output.old errors.old)
         (outputs W.contents E.contents output.new errors.new) result }
 {
-    let answer = pqf_text(alloc, text.as_bytes(), output);
+    let answer = pqf_text(alloc, text, output);
     end_done(answer, errors)
 }
 
-fn pqf_text<'a, W: Write>(
+fn pqf_text<'a, 'o: 'a, W: Write>(
     alloc: Global,
-    text: &[u8],
-    output: &mut Output<'a, W>,
+    text: &'a str,
+    output: &mut Output<'o, W>,
 ) -> Result<(), Fault<'a>>
-    ensures printed { PqfResult text.now (output_device W.contents output.old)
+    ensures printed { PqfResult text.entry.now (output_device W.contents output.old)
         (output_device W.contents output.new) result }
 {
     let mut lines = Vec::new(alloc);
-    match put_query(alloc, text, &mut lines) {
+    match put_query(alloc, text.as_bytes(), &mut lines) {
         Ok(()) => output.put(lines.as_slice()),
-        Err(fault) => Err(fault),
+        Err(fault) => Err(fault.of_text(text)),
     }
 }
 

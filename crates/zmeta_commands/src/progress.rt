@@ -220,7 +220,8 @@ fn put_count(
 }
 
 impl<'a, C: Clock, P: Write + Drop> Watch for Progress<'a, C, P> {
-    // Where a line is not due yet, it is looked again once it is, so that the last line tells the last news.
+    // Where a line is not due yet, it is looked again once it is, so that the last line tells the last news. Else it
+    // is looked again after a second, so that the seconds move where nothing else does.
     fn look(&mut self, meta: &Meta) -> Option<Duration> {
         if self.screen.is_none() {
             return None;
@@ -239,6 +240,6 @@ impl<'a, C: Clock, P: Write + Drop> Watch for Progress<'a, C, P> {
         if let Ok(text) = self.line(meta, self.seconds(now)) {
             self.put(text.as_slice());
         }
-        None
+        Some(Duration::from_secs(1))
     }
 }

@@ -40,7 +40,7 @@ pub fn run_named<'a, 'o: 'a, F: Folder, W: Write, E: Write>(
     alloc: Global,
     files: &mut F,
     paths: Paths<'a>,
-    search: &SearchOptions<'_>,
+    search: &SearchOptions<'a>,
     view: View,
     output: &mut Output<'o, W>,
     errors: &mut Output<'_, E>,
@@ -59,7 +59,7 @@ fn run_file<'a, F: Folder>(
     alloc: Global,
     files: &F,
     path: &'a str,
-    search: &SearchOptions<'_>,
+    search: &SearchOptions<'a>,
     view: View,
 ) -> Result<Finished, Fault<'a>>
     ensures ran { IfSome (F.octets files.now path.entry.now)
@@ -76,7 +76,7 @@ pub(crate) fn read_in_memory<'a, F: Folder>(
     alloc: Global,
     files: &F,
     path: &'a str,
-    search: &SearchOptions<'_>,
+    search: &SearchOptions<'a>,
 ) -> Result<InMemoryRun, Fault<'a>>
     ensures in_memory_run { IfSome (F.octets files.now path.entry.now)
         (λ octets. ReadInMemoryResult (search_of search.now) octets result) }

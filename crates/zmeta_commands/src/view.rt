@@ -6,11 +6,11 @@ use std::alloc::{AllocError, Global};
 use zknow::{Knowledge, Mode, Names, print_list};
 use zknow_json::print_json;
 use zknow_stops::Stop;
-use zknow_titles::print_titles;
+use zknow_titles::{print_fields, print_titles};
 use zmeta_args::View;
 
-/// Appends the list, the view for readers, or lines of JSON. The last two tell why connections stopped. Returns `AllocError` if no memory is found; `out` is
-/// unchanged.
+/// Appends the list, the view for readers, that with the fields of records, or lines of JSON. All but the list tell why
+/// connections stopped. Returns `AllocError` if no memory is found; `out` is unchanged.
 pub(crate) fn print_view(
     alloc: Global,
     knowledge: &Knowledge,
@@ -26,6 +26,7 @@ pub(crate) fn print_view(
         View::Text => print_list(alloc, knowledge, names, Mode::Text, out),
         View::Hex => print_list(alloc, knowledge, names, Mode::Hex, out),
         View::Titles => print_titles(alloc, knowledge, names, stops, out),
+        View::Fields => print_fields(alloc, knowledge, names, stops, out),
         View::Json => print_json(alloc, knowledge, names, stops, out),
     }
 }

@@ -1,11 +1,11 @@
 //! Reads world files for the commands.
 
-ghost use Rattle.std.specs.Prelude.{IfOk, IfErr, IfSome};
+ghost use Rattle.std.specs.Prelude.{◌≡◌, IfOk, IfErr, IfSome};
 ghost use Rattle.zmeta_world.specs.InMemoryRuns.{IsFit};
 ghost use Rattle.zmeta_commands.specs.Finished.{IsOfWorld, IsOfSearchedWorld};
 ghost use Rattle.zmeta_world.specs.Search.{search_texts};
 ghost use Rattle.zmeta_commands.specs.Searches.{search_of};
-ghost use Rattle.zmeta_commands.specs.Worlds.{WorldResult, SearchedResult};
+ghost use Rattle.zmeta_commands.specs.Worlds.{WorldResult, SearchedResult, told_of};
 
 use crate::fault::Fault;
 use crate::files::{Folder, file_at};
@@ -51,14 +51,28 @@ pub(crate) fn world_at<'a, F: Folder>(
     alloc: Global,
     files: &F,
     path: &'a str,
-    search: &SearchOptions<'_>,
+    search: &SearchOptions<'a>,
 ) -> Result<World, Fault<'a>>
     ensures says { IfSome (F.octets files.now path.entry.now)
         (λ octets. SearchedResult (search_of search.now) octets result) }
     ensures fit { IfOk result IsFit }
     ensures path { IfErr result (IsOfSearchedWorld path.entry.now) }
 {
-    let search = copy_search(alloc, search)?;
+    let copy = copy_search(alloc, search)?;
     let mut file = file_at(files, path);
-    searched_world(alloc, &mut file, &search.texts())
+    let answer = searched_world(alloc, &mut file, &copy.texts());
+    of_options(search, answer)
+}
+
+/// Returns the result with the text of the option that its fault speaks of.
+fn of_options<'a>(
+    search: &SearchOptions<'a>,
+    answer: Result<World, Fault<'a>>,
+) -> Result<World, Fault<'a>>
+    ensures { result ≡ told_of search.now answer.entry }
+{
+    match answer {
+        Ok(world) => Ok(world),
+        Err(fault) => Err(fault.of_options(search)),
+    }
 }

@@ -12,6 +12,11 @@ zmeta|show => Show
 zmeta|pqf|dune => Pqf { text: \"dune\" }
 zmeta|pqf|-5 => Pqf { text: \"-5\" }
 zmeta|join|a|b|--hex => Join { first: \"a\", others: [\"b\"], view: Hex }
+zmeta|join|--fields|a|b => Join { first: \"a\", others: [\"b\"], view: Fields }
+zmeta|show|--explain => Show, explained
+zmeta|pqf|--explain|dune => Pqf { text: \"dune\" }, explained
+zmeta|serve|h:1|--explain|a|w|5 => Serve { address: \"h:1\", name: \"a\", world: \"w\", count: 5 }, explained
+zmeta|records|a|--explain => Records { first: \"a\", others: [], only: [], syntax: None, conflicts: false }, explained
 zmeta|join|--titles|a|b => Join { first: \"a\", others: [\"b\"], view: Titles }
 zmeta|run|w|--save|s => Run { world: \"w\", saved: Some(\"s\"), search: SearchOptions { query: None, titles: [], authors: [], subjects: [], isbns: [], any: [], records: None, elements: None, syntax: None }, view: Text }
 zmeta|run|--hex|w => Run { world: \"w\", saved: None, search: SearchOptions { query: None, titles: [], authors: [], subjects: [], isbns: [], any: [], records: None, elements: None, syntax: None }, view: Hex }
@@ -39,10 +44,15 @@ fn command_text(alloc: Global, line: &str) -> Result<String, Unread> {
     let Ok(words) = words_of(alloc, line) else {
         return Err(Unread);
     };
-    let Ok(asked) = parse(alloc, words.as_slice()) else {
+    let Ok(line) = parse(alloc, words.as_slice()) else {
         return Err(Unread);
     };
-    read(format!(in alloc; "{asked:?}"))
+    let command = &line.command;
+    if line.explain {
+        read(format!(in alloc; "{command:?}, explained"))
+    } else {
+        read(format!(in alloc; "{command:?}"))
+    }
 }
 
 fn is_asked(alloc: Global, row: &str) -> Result<bool, Unread> {

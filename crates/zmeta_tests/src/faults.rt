@@ -53,11 +53,17 @@ const OTHERS: [(Fault<'static>, &str); 11] = [
     (Fault::NotApdu, "not an APDU"),
     (Fault::NotPrintable, "not printable"),
     (
-        Fault::NotKnowledge { at: 1 },
+        Fault::NotKnowledge {
+            path: "p",
+            at: 1,
+        },
         "knowledge refused: NotKnowledge at 1",
     ),
     (
-        Fault::NotCanonical { at: 2 },
+        Fault::NotCanonical {
+            path: "p",
+            at: 2,
+        },
         "knowledge refused: NotCanonical at 2",
     ),
     (Fault::NamesDiffer, "names differ"),
@@ -113,7 +119,15 @@ fn each_fault_of_octets_has_its_line(rt: HostRuntime) {
 fn each_fault_of_a_query_has_its_line(rt: HostRuntime) {
     for (kind, line) in QUERIES {
         assert!(rt;
-            tells(rt.alloc(), Fault::Query { kind, at: 9 }, line),
+            tells(
+                rt.alloc(),
+                Fault::Query {
+                    kind,
+                    at: 9,
+                    text: None,
+                },
+                line,
+            ),
             "{line}"
         );
     }

@@ -10,6 +10,8 @@ mod broken;
 #[cfg(test)]
 mod devices;
 #[cfg(test)]
+mod explained;
+#[cfg(test)]
 mod faults;
 #[cfg(test)]
 mod lines;

@@ -23,7 +23,7 @@ use Rattle.zopac.specs.declared.holdings.HoldingsAndCirc.{HoldingsAndCirc}
 use Rattle.zopac.specs.declared.opac.OpacRecord.{OpacRecord}
 use Rattle.zopac.specs.declared.volume.Volume.{Volume}
 use Rattle.zopac.specs.Joined.{shown, labelled, joined_to, joined}
-use Rattle.zopac.specs.Copies.{location, item, head, volume_text, volume_texts, availability, until, hold, state, circulation_text, circulation_texts, copy_parts, copy_line, brief_of, marc_line, holding_line, holdings_of, copy_lines, AreSafe}
+use Rattle.zopac.specs.Copies.{location, is_worded, copy_word, item, head, volume_text, volume_texts, availability, until, hold, state, circulation_text, circulation_texts, copy_parts, copy_line, brief_of, marc_line, holding_line, holdings_of, copy_lines, AreSafe}
 
 -- ---- texts behind one another
 
@@ -114,11 +114,15 @@ location_safe c =
     three_safe (codes ", ") (shown c.local_location) (shown c.shelving_location) (shown c.nuc_code) comma_safe
     (shown_safe c.local_location) (shown_safe c.shelving_location) (shown_safe c.nuc_code)
 
+word_safe : (number : Option (List ℕ)) → IsSafeText (copy_word number)
+word_safe None = literal_safe (codes "copy ") refl
+word_safe (Some number) = either_safe (is_worded number) nothing_safe (literal_safe (codes "copy ") refl)
+
 item_safe : (c : HoldingsAndCirc) → IsSafeText (item c)
 item_safe c =
-    three_safe (codes ", ") (shown c.call_number) (labelled (codes "copy ") (shown c.copy_number))
+    three_safe (codes ", ") (shown c.call_number) (labelled (copy_word c.copy_number) (shown c.copy_number))
     (shown c.enumeration_and_chronology) comma_safe (shown_safe c.call_number)
-    (labelled_safe (codes "copy ") (shown c.copy_number) (literal_safe (codes "copy ") refl)
+    (labelled_safe (copy_word c.copy_number) (shown c.copy_number) (word_safe c.copy_number)
     (shown_safe c.copy_number)) (shown_safe c.enumeration_and_chronology)
 
 head_safe : (c : HoldingsAndCirc) → IsSafeText (head c)

@@ -4,9 +4,9 @@
 -- circulation. What is missing or empty is left out:
 --
 --     Main library, Reference: QA76 .H3, copy 2, v.3; not available, until 2026-12-01, on hold
-use Rattle.std.specs.Prelude.{ℕ, ◌==◌, Bool, if◌then◌else◌, Option, Some, None, List, [], ◌∷◌, ◌++◌, codes, length}
+use Rattle.std.specs.Prelude.{ℕ, ◌==◌, nat_eq, ◌||◌, Bool, if◌then◌else◌, Option, Some, None, List, [], ◌∷◌, ◌++◌, codes, length}
 use Rattle.std.specs.Prelude.{map, All}
-use Rattle.std.specs.List.{flat_map}
+use Rattle.std.specs.List.{flat_map, starts_with}
 use Rattle.zapdu.specs.declared.productions.external.Content.{Content}
 use Rattle.zapdu.specs.declared.productions.external.Content.TheVariants.{Single, Aligned, Arbitrary}
 use Rattle.zapdu.specs.declared.productions.external.External.{External}
@@ -25,11 +25,22 @@ use Rattle.zopac.specs.Joined.{shown, labelled, joined}
 abbrev pub location : HoldingsAndCirc → List ℕ
 location c = joined (codes ", ") (shown c.local_location ∷ shown c.shelving_location ∷ shown c.nuc_code ∷ [])
 
+-- the number of a copy begins with the word `copy`, as some catalogues send it
+abbrev pub is_worded : List ℕ → Bool
+is_worded number =
+    starts_with nat_eq number (codes "copy") || starts_with nat_eq number (codes "Copy")
+    || starts_with nat_eq number (codes "COPY")
+
+-- the word before the number of a copy
+abbrev pub copy_word : Option (List ℕ) → List ℕ
+copy_word None = codes "copy "
+copy_word (Some number) = if is_worded number then [] else codes "copy "
+
 -- which copy it is: its call number, its number, and which volumes it has
 abbrev pub item : HoldingsAndCirc → List ℕ
 item c =
     joined (codes ", ")
-    (shown c.call_number ∷ labelled (codes "copy ") (shown c.copy_number) ∷ shown c.enumeration_and_chronology ∷ [])
+    (shown c.call_number ∷ labelled (copy_word c.copy_number) (shown c.copy_number) ∷ shown c.enumeration_and_chronology ∷ [])
 
 -- both
 abbrev pub head : HoldingsAndCirc → List ℕ

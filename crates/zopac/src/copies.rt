@@ -2,7 +2,7 @@
 ghost use Rattle.std.specs.Prelude.{◌≡◌, ◌++◌, OnOk, OnErr, IfOk, fold, codes, map, string_bytes};
 ghost use Rattle.zmarc.specs.Shown.{IsSafeText};
 ghost use Rattle.zopac.specs.Joined.{joined_to};
-ghost use Rattle.zopac.specs.Copies.{location, item, head, volume_text, volume_texts, availability, until, hold, state, circulation_text, circulation_texts, copy_parts, described, copy_line, brief_of, marc_line, holding_line, holdings_of, copy_lines, ended, AreSafe};
+ghost use Rattle.zopac.specs.Copies.{location, is_worded, copy_word, item, head, volume_text, volume_texts, availability, until, hold, state, circulation_text, circulation_texts, copy_parts, described, copy_line, brief_of, marc_line, holding_line, holdings_of, copy_lines, ended, AreSafe};
 
 use crate::circulation::Circulation;
 use crate::holding::Holding;
@@ -27,13 +27,38 @@ fn show_location(alloc: Global, copy: &HoldingsAndCirc) -> Result<String, AllocE
     Ok(line)
 }
 
+/// Returns whether the number of a copy begins with the word `copy`.
+fn is_worded(number: &[u8]) -> bool
+    ensures { result ≡ is_worded number.now }
+{
+    number.starts_with(b"copy".as_slice())
+        || number.starts_with(b"Copy".as_slice())
+        || number.starts_with(b"COPY".as_slice())
+}
+
+/// Returns the word before the number of a copy: none if that begins with it.
+fn copy_word(number: &Option<Bytes>) -> &'static str
+    ensures { result.now ≡ copy_word number.now }
+{
+    match number {
+        Some(octets) => {
+            if is_worded(octets.as_slice()) {
+                ""
+            } else {
+                "copy "
+            }
+        }
+        None => "copy ",
+    }
+}
+
 /// Returns which copy it is.
 fn show_item(alloc: Global, copy: &HoldingsAndCirc) -> Result<String, AllocError>
     ensures { IfOk result (λ line. string_bytes line ≡ item copy.now) }
 {
     let mut line = String::new(alloc);
     join_shown(alloc, &mut line, ", ", &copy.call_number)?;
-    let number = label(alloc, "copy ", &copy.copy_number)?;
+    let number = label(alloc, copy_word(&copy.copy_number), &copy.copy_number)?;
     join(&mut line, ", ", number.as_str())?;
     join_shown(alloc, &mut line, ", ", &copy.enumeration_and_chronology)?;
     Ok(line)
@@ -242,7 +267,8 @@ fn show_holding(alloc: Global, holding: &Holding) -> Result<String, AllocError>
 /// the line is `copy without details`.
 ///
 /// - Where it stands and which it is, with `: ` between them: localLocation, shelvingLocation and nucCode; callNumber,
-///   `copy ` and copyNumber, and enumAndChron; each with `, ` between them.
+///   `copy ` and copyNumber (alone if it begins with `copy`, `Copy` or `COPY`), and enumAndChron; each with `, ` between
+///   them.
 /// - Each volume, in order: enumeration, chronology and enumAndChron, with `, ` between them.
 /// - publicNote.
 /// - Each circulation record, in order: enumAndChron and `: `; then `available` or `not available`; then `until ` and

@@ -26,6 +26,8 @@ H3; Ask at the desk; available
 03762e31300e8101008601ff8701ff8803762e32 => |Branch; v.1, 1999; v.2 (2000); v.1: available; v.2: not available, on hold
 # Copies of which nothing is said: of nothing, of empty lists, of an empty call number and an empty volume.
 3012a210a200a204b200b300a2068b00b2023000 => |copy without details|copy without details|copy without details
+# Numbers of copies that have the word, which then stands once.
+301da21ba2088d06436f70792031a2078d05434f505932a2068d04634f7079 => |Copy 1|COPY2|copy cOpy
 # Controls, a character that turns the direction of text, and what is no UTF-8.
 3018a216a21489071b5b324a610a628b03e280ae8d01ff8e0100 => |\u{fffd}[2Ja b: \u{fffd}, copy \u{fffd}; \u{fffd}
 # Records of MARC in place of fields: with a title, and one that is no record.

@@ -1,0 +1,12 @@
+pub mod Laws
+pub mod Lines
+pub mod Mistakes
+pub mod Octets
+pub mod Places
+pub mod Queries
+pub mod Ranges
+pub mod Sentences
+pub mod Shown
+pub mod Stops
+pub mod Syntaxes
+pub mod Tokens
