@@ -4,7 +4,7 @@ _zmeta_commands='ask run loop join records serve show pqf help'
 _zmeta_syntaxes='marc21 unimarc xml sutrs opac grs1'
 _zmeta_terms='--title --author --subject --isbn --any'
 _zmeta_search="$_zmeta_terms --query --records --elements --syntax"
-_zmeta_views='--titles --fields --json --hex'
+_zmeta_views='--titles --fields --json --hex --html'
 _zmeta_limits='--connect --patience --within'
 _zmeta_families='--ipv4 --ipv6'
 
@@ -30,7 +30,7 @@ _zmeta_may() {
         --only) excluded='' ;;
         --title | --author | --subject | --isbn | --any) excluded=--query ;;
         --query) excluded="--query $_zmeta_terms" ;;
-        --titles | --fields | --json | --hex) excluded=$_zmeta_views ;;
+        --titles | --fields | --json | --hex | --html) excluded=$_zmeta_views ;;
         --ipv4 | --ipv6) excluded="$_zmeta_families -4 -6" ;;
         *) excluded=$1 ;;
     esac
@@ -44,9 +44,9 @@ _zmeta_may() {
 _zmeta_options() {
     local options='' left='-h --help' option
     case $1 in
-        ask) options="--at-once $_zmeta_limits $_zmeta_families --only $_zmeta_search $_zmeta_views --save --explain" ;;
-        run | loop) options="$_zmeta_search $_zmeta_views --save --explain" ;;
-        join) options="$_zmeta_views --explain" ;;
+        ask) options="--at-once $_zmeta_limits $_zmeta_families --only $_zmeta_search $_zmeta_views --heading --save --explain" ;;
+        run | loop) options="$_zmeta_search $_zmeta_views --heading --save --explain" ;;
+        join) options="$_zmeta_views --heading --explain" ;;
         records) options='--only --syntax --conflicts --explain' ;;
         serve | show | pqf) options=--explain ;;
         *) left= ;;
@@ -83,8 +83,9 @@ _zmeta_any() {
             return
             ;;
         -*) return ;;
-        ask) valued=" --only $_zmeta_limits $_zmeta_search --save " ;;
-        run | loop) valued=" $_zmeta_search --save " ;;
+        ask) valued=" --only $_zmeta_limits $_zmeta_search --heading --save " ;;
+        run | loop) valued=" $_zmeta_search --heading --save " ;;
+        join) valued=' --heading ' ;;
         records) valued=' --only --syntax ' ;;
     esac
     for ((i = 2; i < ${#words[@]}; i++)); do

@@ -2,7 +2,7 @@
 
 # The options that have a value.
 set -g __zmeta_valued --connect --patience --within --only --title --author --subject --isbn --any --query --records --elements \
-    --syntax --save
+    --syntax --heading --save
 
 # The words before the cursor that are no options, the command first.
 function __zmeta_words
@@ -107,14 +107,18 @@ complete -c zmeta -n '__zmeta_in ask run loop; and __zmeta_lacks --elements' -l 
 complete -c zmeta -n '__zmeta_in ask run loop; and __zmeta_lacks --syntax' -l syntax -x \
     -a 'marc21 unimarc xml sutrs opac grs1' \
     -d 'Asks every catalogue for records of this syntax: a name as marc21, or an OID'
-complete -c zmeta -n '__zmeta_in ask run loop join; and __zmeta_lacks --titles --fields --json --hex' -l titles \
+complete -c zmeta -n '__zmeta_in ask run loop join; and __zmeta_lacks --titles --fields --json --hex --html' -l titles \
     -d 'Prints years and titles, to be read, in place of the list'
-complete -c zmeta -n '__zmeta_in ask run loop join; and __zmeta_lacks --titles --fields --json --hex' -l fields \
+complete -c zmeta -n '__zmeta_in ask run loop join; and __zmeta_lacks --titles --fields --json --hex --html' -l fields \
     -d 'Prints what --titles prints, and below each row the fields of its record'
-complete -c zmeta -n '__zmeta_in ask run loop join; and __zmeta_lacks --titles --fields --json --hex' -l json \
+complete -c zmeta -n '__zmeta_in ask run loop join; and __zmeta_lacks --titles --fields --json --hex --html' -l json \
     -d 'Prints a JSON object a line, for programs, in place of the list'
-complete -c zmeta -n '__zmeta_in ask run loop join; and __zmeta_lacks --titles --fields --json --hex' -l hex \
+complete -c zmeta -n '__zmeta_in ask run loop join; and __zmeta_lacks --titles --fields --json --hex --html' -l hex \
     -d 'Prints the octets of records in hexadecimal'
+complete -c zmeta -n '__zmeta_in ask run loop join; and __zmeta_lacks --titles --fields --json --hex --html' -l html \
+    -d 'Prints a page for a browser (HTML) in place of the list'
+complete -c zmeta -n '__zmeta_in ask run loop join; and __zmeta_lacks --heading' -l heading -x \
+    -d 'Is the heading of the page that --html prints'
 complete -c zmeta -n '__zmeta_in ask run loop; and __zmeta_lacks --save' -l save -r -F \
     -d 'Saves what was brought, in the file OUT'
 complete -c zmeta -n '__zmeta_in records' -l only -x \

@@ -20,6 +20,7 @@ from concurrent.futures import ThreadPoolExecutor
 
 import completions
 import hosts
+import html_pages
 import json_lines
 import large
 import marc_made
@@ -193,6 +194,8 @@ def main():
         print(f"program: {MUTILATED} mutilated records")
         faults += opac_views.faults(ZMETA, room, COPIED, SEED)
         print(f"program: {COPIED} records with their copies")
+        faults += html_pages.faults(ZMETA, room)
+        print(f"program: {len(html_pages.ASKED)} pages for browsers")
         files = json_lines.files(JSON_WORLDS, JSON_FACTS, SEED)
         faults += [it for it in pool.map(lambda it: json_lines.fault_of(ZMETA, room, *it), files) if it]
         print(f"program: JSON of {JSON_WORLDS} worlds and {JSON_FACTS} facts")

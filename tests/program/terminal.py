@@ -13,7 +13,10 @@ MOST = 60
 ASKED = ["ask", "--at-once", "--save", "broken.saved", "full.world"]
 SHOWN = ["ask", "--patience", "1", "full.world"]
 FIRST = b'\r\x1b[K\x1b[?7l0 s, waiting for "full"; 0 of 1 done, 0 failed, 0 connected; 0 records\x1b[?7h'
-LAST = b'\r\x1b[Kzmeta: target "full": Connect\r\n'
+LAST = (
+    b'\r\x1b[Kzmeta: target "full": Connect\r\n'
+    b"zmeta: 127.0.0.1 gave no answer in 1 s; --connect sets how long that may take\r\n"
+)
 
 
 def full_port(held):

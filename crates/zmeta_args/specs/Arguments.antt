@@ -1,6 +1,6 @@
 -- The arguments of a command line, as `clap` found them.
 use Rattle.std.specs.Prelude.{◌≡◌, ◌⊎◌, ℕ, ◌<◌, ◌^◌, Bool, true, false, List, [], slice_get, Option, Some, None, codes}
-use Rattle.std.specs.Option.{option_map}
+use Rattle.std.specs.Option.{option_map, unwrap_or}
 use Rattle.std.specs.Str.Parse.{IsNumeral, digits_value, without_leading_plus}
 use Rattle.clap.specs.Words.{first_value, one_text, matched_of, raw_values}
 use Rattle.clap.specs.declared.parser.matches.Found.{Found}
@@ -61,8 +61,17 @@ IsGiven found id = one_text found id ≡ Some (codes "true")
 abbrev pub IsLeftOut : Found → List ℕ → Type 0
 IsLeftOut found id = (one_text found id ≡ None) ⊎ (one_text found id ≡ Some (codes "false"))
 
--- what is printed: the titles, JSON, the list in hexadecimal, or the titles with all fields, if that is asked for, else
--- the list
+-- the heading of a page
+abbrev pub heading_of : Found → List ℕ
+heading_of found = unwrap_or (first_value found (codes "heading")) (codes "What the catalogues answered")
+
+-- a page under this heading is printed
+abbrev pub IsPage : List ℕ → View → Type 0
+IsPage heading (views.Html text) = text.now ≡ heading
+IsPage heading view = ⊥
+
+-- what is printed: the titles, JSON, the list in hexadecimal, the titles with all fields, or a page, if that is asked for,
+-- else the list
 pub record HasView (found : Found) (view : View) : Type 0 where
   pub titles : IsGiven found (codes "titles") → view ≡ views.Titles
   pub json : IsLeftOut found (codes "titles") → IsGiven found (codes "json") → view ≡ views.Json
@@ -70,8 +79,10 @@ pub record HasView (found : Found) (view : View) : Type 0 where
       → view ≡ views.Hex
   pub fields : IsLeftOut found (codes "titles") → IsLeftOut found (codes "json") → IsLeftOut found (codes "hex")
       → IsGiven found (codes "fields") → view ≡ views.Fields
+  pub html : IsLeftOut found (codes "titles") → IsLeftOut found (codes "json") → IsLeftOut found (codes "hex")
+      → IsLeftOut found (codes "fields") → IsGiven found (codes "html") → IsPage (heading_of found) view
   pub left_out : IsLeftOut found (codes "titles") → IsLeftOut found (codes "json") → IsLeftOut found (codes "hex")
-      → IsLeftOut found (codes "fields") → view ≡ views.Text
+      → IsLeftOut found (codes "fields") → IsLeftOut found (codes "html") → view ≡ views.Text
 
 -- how long catalogues are waited for, and over which addresses they are asked: the values of these options
 pub record HasLimits (found : Found) (l : LimitOptions) : Type 0 where

@@ -4,7 +4,7 @@ ghost use Rattle.std.specs.Prelude.{◌≡◌, IfOk, IfSome, codes, map, option_
 ghost use Rattle.clap.specs.Words.{kind_of, found_of};
 ghost use Rattle.clap.specs.declared.error.kind.ErrorKind.TheVariants.{InvalidValue};
 ghost use Rattle.zmeta_args.specs.Texts.{texts_of};
-ghost use Rattle.zmeta_args.specs.Arguments.{IsParsed, IsLineOf, AreArgumentsOf, HasFlag, HasValues, HasSeconds, HasLimits, HasSearch, HasView};
+ghost use Rattle.zmeta_args.specs.Arguments.{IsParsed, IsLineOf, AreArgumentsOf, HasFlag, HasValues, HasSeconds, HasLimits, HasSearch, HasView, heading_of};
 
 use crate::forms::command;
 use clap::error::ErrorKind;
@@ -13,7 +13,7 @@ use std::alloc::{AllocError, Global};
 
 /// What a command prints of what is known.
 #[derive(Clone, Copy, Debug, PartialEq, Eq, Drop)]
-pub enum View {
+pub enum View<'a> {
     /// The list, with the octets of records in quotes.
     Text,
     /// The list, with the octets of records in hexadecimal.
@@ -24,6 +24,8 @@ pub enum View {
     Fields,
     /// One JSON object for each line of the list, for programs.
     Json,
+    /// A page for a browser, under this heading.
+    Html { heading: &'a str },
 }
 
 /// What is put to every question of a world file, in place of what its line says. What is not given stays as the
@@ -78,14 +80,14 @@ pub enum Arguments<'a> {
     Join {
         first: &'a str,
         others: Vec<&'a str>,
-        view: View,
+        view: View<'a>,
     },
     /// Ask the targets of a world file in memory, and print the list. Save the facts if `saved` is a path.
     Run {
         world: &'a str,
         saved: Option<&'a str>,
         search: SearchOptions<'a>,
-        view: View,
+        view: View<'a>,
     },
     /// Write the records of saved files: of one syntax, or of any; of the catalogues of these names, or of all if
     /// `only` is empty. With `conflicts`, write all records of a position that has several, else none of them.
@@ -105,14 +107,14 @@ pub enum Arguments<'a> {
         only: Vec<&'a str>,
         limits: LimitOptions,
         search: SearchOptions<'a>,
-        view: View,
+        view: View<'a>,
     },
     /// As `Run`, but over TCP on 127.0.0.1 and without moves.
     Loop {
         world: &'a str,
         saved: Option<&'a str>,
         search: SearchOptions<'a>,
-        view: View,
+        view: View<'a>,
     },
     /// Serve a target of a world file at an address, for `count` connections.
     Serve {
@@ -394,9 +396,19 @@ fn single_of<'a>(name: &str, found: &ArgMatches<'a>) -> Option<Arguments<'a>>
     }
 }
 
+/// Returns the heading of a page.
+fn heading_of<'a>(found: &ArgMatches<'a>) -> &'a str
+    ensures { result.now ≡ heading_of (found_of found.now) }
+{
+    match found.get_str("heading") {
+        Some(heading) => heading,
+        None => "What the catalogues answered",
+    }
+}
+
 /// Returns what is printed: the titles if `--titles` is given, JSON if `--json` is given, the list in hexadecimal if
-/// `--hex` is given, the titles with all fields if `--fields` is given, else the list.
-fn view_of(found: &ArgMatches<'_>) -> View
+/// `--hex` is given, the titles with all fields if `--fields` is given, a page if `--html` is given, else the list.
+fn view_of<'a>(found: &ArgMatches<'a>) -> View<'a>
     ensures { HasView (found_of found.now) result }
 {
     if found.get_flag("titles") {
@@ -407,6 +419,10 @@ fn view_of(found: &ArgMatches<'_>) -> View
         View::Hex
     } else if found.get_flag("fields") {
         View::Fields
+    } else if found.get_flag("html") {
+        View::Html {
+            heading: heading_of(found),
+        }
     } else {
         View::Text
     }

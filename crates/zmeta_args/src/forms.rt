@@ -2,8 +2,8 @@
 
 use crate::options::{
     ANY, ASKED_SYNTAX, AT_ONCE, AUTHOR, CONFLICTS, CONNECT, CommandOption, ELEMENTS, EXPLAIN,
-    FIELDS, HEX, IPV4, IPV6, ISBN, JSON, ONLY, ONLY_OF, PATIENCE, QUERY, RECORDS as RECORDS_WANTED,
-    SAVE, SUBJECT, SYNTAX, TITLE, TITLES, WITHIN, option,
+    FIELDS, HEADING, HEX, HTML, IPV4, IPV6, ISBN, JSON, ONLY, ONLY_OF, PATIENCE, QUERY,
+    RECORDS as RECORDS_WANTED, SAVE, SUBJECT, SYNTAX, TITLE, TITLES, WITHIN, option,
 };
 use clap::{Arg, ArgAction, Command, value_parser};
 use std::alloc::{AllocError, Global};
@@ -133,7 +133,7 @@ prints lines as
             is_needed: true,
         },
     ],
-    may: &[TITLES, FIELDS, JSON, HEX, EXPLAIN],
+    may: &[TITLES, FIELDS, JSON, HEX, HTML, HEADING, EXPLAIN],
 };
 
 const RECORDS: Form = Form {
@@ -206,6 +206,8 @@ prints lines as
         FIELDS,
         JSON,
         HEX,
+        HTML,
+        HEADING,
         SAVE,
         EXPLAIN,
     ],
@@ -262,6 +264,8 @@ or, with another question and the same file, by
         FIELDS,
         JSON,
         HEX,
+        HTML,
+        HEADING,
         SAVE,
         EXPLAIN,
     ],
@@ -344,6 +348,8 @@ prints lines as
         FIELDS,
         JSON,
         HEX,
+        HTML,
+        HEADING,
         SAVE,
         EXPLAIN,
     ],

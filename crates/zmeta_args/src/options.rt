@@ -55,6 +55,26 @@ pub(crate) const FIELDS: CommandOption = CommandOption {
     excludes: &["hex", "json", "titles"],
 };
 
+pub(crate) const HTML: CommandOption = CommandOption {
+    id: "html",
+    short: None,
+    help: "Prints a page for a browser (HTML) in place of the list",
+    value: None,
+    is_many: false,
+    most_seconds: None,
+    excludes: &["hex", "json", "titles", "fields"],
+};
+
+pub(crate) const HEADING: CommandOption = CommandOption {
+    id: "heading",
+    short: None,
+    help: "Is the heading of the page that --html prints",
+    value: Some("TEXT"),
+    is_many: false,
+    most_seconds: None,
+    excludes: &[],
+};
+
 pub(crate) const EXPLAIN: CommandOption = CommandOption {
     id: "explain",
     short: None,

@@ -3,17 +3,19 @@ use Rattle.std.specs.Prelude.{ℕ, List, Option}
 use Rattle.zber.specs.declared.text.Mode.TheVariants as modes
 use Rattle.zknow.specs.declared.fact.Fact.{Fact}
 use Rattle.zknow.specs.List.Listing.{listing}
+use Rattle.zknow_html.specs.Page.{page}
 use Rattle.zknow_json.specs.Lines.{json_lines}
 use Rattle.zknow_stops.specs.declared.stop.Stop.{Stop}
 use Rattle.zknow_titles.specs.Titles.{titles, whole_records}
 use Rattle.zmeta_args.specs.declared.arguments.View.{View}
-use Rattle.zmeta_args.specs.declared.arguments.View.TheVariants.{Text, Hex, Titles, Fields, Json}
+use Rattle.zmeta_args.specs.declared.arguments.View.TheVariants.{Text, Hex, Titles, Fields, Json, Html}
 
--- the list, the view for readers, that with the fields of records, or lines of JSON; all but the list tell why connections
--- stopped
+-- the list, the view for readers, that with the fields of records, lines of JSON, or a page; all but the list tell why
+-- connections stopped
 abbrev pub printed : List (List ℕ) → View → List (Option Stop) → List Fact → List ℕ
 printed names Text stops facts = listing names modes.Text facts
 printed names Hex stops facts = listing names modes.Hex facts
 printed names Titles stops facts = titles names stops facts
 printed names Fields stops facts = whole_records names stops facts
+printed names (Html heading) stops facts = page heading.now names stops facts
 printed names Json stops facts = json_lines names stops facts

@@ -43,12 +43,12 @@ pub fn ask_named<'a, 'o: 'a, S: Folder + Net + Clock, W: Write, E: Write, P: Wri
     paths: Paths<'a>,
     choice: Choice<'a, '_>,
     search: &SearchOptions<'a>,
-    view: View,
+    view: View<'_>,
     screen: Option<P>,
     output: &mut Output<'o, W>,
     errors: &mut Output<'_, E>,
 ) -> Status
-    ensures { AfterAsk (choice_texts choice.entry) (search_of search.now) view paths.entry.world.now
+    ensures { AfterAsk (choice_texts choice.entry) (search_of search.now) view.entry paths.entry.world.now
         (option_map (λ path. path.now) paths.entry.saved) (S.octets system.old paths.entry.world.now)
         (S.made system.old) (S.made system.new) (outputs W.contents E.contents output.old errors.old)
         (outputs W.contents E.contents output.new errors.new) result }
@@ -64,11 +64,11 @@ fn ask_file<'a, S: Folder + Net + Clock, P: Write + Drop>(
     path: &'a str,
     choice: Choice<'a, '_>,
     search: &SearchOptions<'a>,
-    view: View,
+    view: View<'_>,
     screen: Option<P>,
 ) -> Result<Finished, Fault<'a>>
     ensures asked { IfSome (S.octets system.now path.entry.now)
-        (λ octets. AskFileResult (choice_texts choice.entry) (search_of search.now) view octets result) }
+        (λ octets. AskFileResult (choice_texts choice.entry) (search_of search.now) view.entry octets result) }
     ensures sound { IfOk result HasNames }
     ensures path { IfErr result (IsOfAsking path.entry.now) }
 {
@@ -99,11 +99,11 @@ fn ask_network<'a, N: Net + Clock, P: Write + Drop>(
     net: &N,
     network: NetworkRun,
     choice: Choice<'a, '_>,
-    view: View,
+    view: View<'_>,
     screen: Option<P>,
 ) -> Result<Finished, Fault<'a>>
     requires { CanBeAsked network }
-    ensures asked { AskNetworkResult (choice_texts choice.entry) view network result }
+    ensures asked { AskNetworkResult (choice_texts choice.entry) view.entry network result }
     ensures sound { IfOk result HasNames }
 {
     let NetworkRun {

@@ -58,10 +58,10 @@ impl Finished {
         addresses: Vec<Option<Bytes>>,
         noticed: &[Notice],
         limits: &Limits,
-        view: View,
+        view: View<'_>,
     ) -> Result<Finished, AllocError>
         requires { length meta.pool.connections < 2 ^ 32 }
-        ensures { IfOk result (IsListed limits.now meta names addresses.items view) }
+        ensures { IfOk result (IsListed limits.now meta names addresses.items view.entry) }
     {
         let stops = stops_of(alloc, &meta, noticed, limits)?;
         let mut list = Vec::new(alloc);

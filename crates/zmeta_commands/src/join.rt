@@ -27,11 +27,11 @@ pub fn join_named<'a, 'o: 'a, F: Folder, W: Write, E: Write>(
     files: &'a F,
     first: &'a str,
     others: &[&'a str],
-    view: View,
+    view: View<'_>,
     output: &mut Output<'o, W>,
     errors: &mut Output<'_, E>,
 ) -> Status
-    ensures { AfterJoin view (F.octets files.now) (first.entry.now ∷ texts_of others.now)
+    ensures { AfterJoin view.entry (F.octets files.now) (first.entry.now ∷ texts_of others.now)
         (outputs W.contents E.contents output.old errors.old)
         (outputs W.contents E.contents output.new errors.new) result }
 {
@@ -45,10 +45,10 @@ fn join_files<'a, 'o: 'a, F: Folder, W: Write>(
     files: &'a F,
     first: &'a str,
     others: &[&'a str],
-    view: View,
+    view: View<'_>,
     output: &mut Output<'o, W>,
 ) -> Result<Status, Fault<'a>>
-    ensures { JoinResult view (F.octets files.now) (first.entry.now ∷ texts_of others.now)
+    ensures { JoinResult view.entry (F.octets files.now) (first.entry.now ∷ texts_of others.now)
         (output_device W.contents output.old) (output_device W.contents output.new) result }
 {
     let known = load_all(alloc, files, first, others)?;

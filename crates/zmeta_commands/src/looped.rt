@@ -30,11 +30,11 @@ pub fn loop_named<'a, 'o: 'a, S: Folder + Net, W: Write, E: Write>(
     system: &mut S,
     paths: Paths<'a>,
     search: &SearchOptions<'a>,
-    view: View,
+    view: View<'_>,
     output: &mut Output<'o, W>,
     errors: &mut Output<'_, E>,
 ) -> Status
-    ensures { AfterLoop S.Stream (search_of search.now) view paths.entry.world.now
+    ensures { AfterLoop S.Stream (search_of search.now) view.entry paths.entry.world.now
         (option_map (λ path. path.now) paths.entry.saved) (S.octets system.old paths.entry.world.now)
         (S.made system.old) (S.made system.new) (outputs W.contents E.contents output.old errors.old)
         (outputs W.contents E.contents output.new errors.new) result }
@@ -49,10 +49,10 @@ fn loop_file<'a, S: Folder + Net>(
     system: &S,
     path: &'a str,
     search: &SearchOptions<'a>,
-    view: View,
+    view: View<'_>,
 ) -> Result<Finished, Fault<'a>>
     ensures ran { IfSome (S.octets system.now path.entry.now)
-        (λ octets. LoopFileResult S.Stream (search_of search.now) view octets result) }
+        (λ octets. LoopFileResult S.Stream (search_of search.now) view.entry octets result) }
     ensures sound { IfOk result HasNames }
     ensures path { IfErr result (IsOfLoop path.entry.now) }
 {
@@ -65,10 +65,10 @@ fn loop_in_memory<'a, N: Net>(
     alloc: Global,
     net: &N,
     run: InMemoryRun,
-    view: View,
+    view: View<'_>,
 ) -> Result<Finished, Fault<'a>>
     requires { CanBeRun run }
-    ensures run { IfOk result (IsListedLoop N.Stream view run) }
+    ensures run { IfOk result (IsListedLoop N.Stream view.entry run) }
     ensures sound { IfOk result HasNames }
     ensures network { IfErr result IsOfNetwork }
 {

@@ -41,11 +41,11 @@ pub fn run_named<'a, 'o: 'a, F: Folder, W: Write, E: Write>(
     files: &mut F,
     paths: Paths<'a>,
     search: &SearchOptions<'a>,
-    view: View,
+    view: View<'_>,
     output: &mut Output<'o, W>,
     errors: &mut Output<'_, E>,
 ) -> Status
-    ensures { AfterRun (search_of search.now) view paths.entry.world.now
+    ensures { AfterRun (search_of search.now) view.entry paths.entry.world.now
         (option_map (λ path. path.now) paths.entry.saved) (F.octets files.old paths.entry.world.now)
         (F.made files.old) (F.made files.new) (outputs W.contents E.contents output.old errors.old)
         (outputs W.contents E.contents output.new errors.new) result }
@@ -60,10 +60,10 @@ fn run_file<'a, F: Folder>(
     files: &F,
     path: &'a str,
     search: &SearchOptions<'a>,
-    view: View,
+    view: View<'_>,
 ) -> Result<Finished, Fault<'a>>
     ensures ran { IfSome (F.octets files.now path.entry.now)
-        (λ octets. RunFileResult (search_of search.now) view octets result) }
+        (λ octets. RunFileResult (search_of search.now) view.entry octets result) }
     ensures sound { IfOk result HasNames }
     ensures path { IfErr result (IsOfSearchedWorld path.entry.now) }
 {
@@ -111,9 +111,9 @@ fn run_all(
 }
 
 /// Runs a planned world, and makes its list.
-fn run_in_memory(alloc: Global, run: InMemoryRun, view: View) -> Result<Finished, AllocError>
+fn run_in_memory(alloc: Global, run: InMemoryRun, view: View<'_>) -> Result<Finished, AllocError>
     requires { CanBeRun run }
-    ensures run { IfOk result (IsCompleteListedRun view run) }
+    ensures run { IfOk result (IsCompleteListedRun view.entry run) }
     ensures sound { IfOk result HasNames }
 {
     let InMemoryRun {

@@ -53,17 +53,11 @@ const OTHERS: [(Fault<'static>, &str); 11] = [
     (Fault::NotApdu, "not an APDU"),
     (Fault::NotPrintable, "not printable"),
     (
-        Fault::NotKnowledge {
-            path: "p",
-            at: 1,
-        },
+        Fault::NotKnowledge { path: "p", at: 1 },
         "knowledge refused: NotKnowledge at 1",
     ),
     (
-        Fault::NotCanonical {
-            path: "p",
-            at: 2,
-        },
+        Fault::NotCanonical { path: "p", at: 2 },
         "knowledge refused: NotCanonical at 2",
     ),
     (Fault::NamesDiffer, "names differ"),

@@ -1,0 +1,5 @@
+pub mod MarkupTheory
+pub mod NameTheory
+pub mod ReadTheory
+pub mod References
+pub mod TextTheory

@@ -1,0 +1,6 @@
+pub mod Laws
+pub mod Markup
+pub mod Names
+pub mod Reader
+pub mod Texts
+pub mod Trees

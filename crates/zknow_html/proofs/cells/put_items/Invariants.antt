@@ -1,0 +1,9 @@
+use Rattle.std.proofs.Common.{◌≡◌, ◌++◌, map, drop, string_bytes}
+use Rattle.std.specs.List.{flat_map}
+use Rattle.zhtml.specs.declared.elements.Element.TheVariants.{Li}
+use Rattle.zknow_html.specs.Cells.{said}
+use Rattle.zknow_html.proofs.cells.put_items.Given as goal
+
+abbrev pub invariant-loop-text : goal.invariant-loop-text
+invariant-loop-text l = string_bytes l.out ++ flat_map (said Li) (map string_bytes (drop l.text-index l.texts))
+    ≡ string_bytes l.fn.out ++ flat_map (said Li) (map string_bytes l.texts)

@@ -1,0 +1,60 @@
+-- The title, the author and the ISBN of a record of MARC; of a record with its copies those of the bibliographic record.
+use Rattle.std.specs.Prelude.{ℕ, ◌==◌, if◌then◌else◌, Option, Some, None, unwrap_or, List, [], length}
+use Rattle.zapdu.specs.declared.productions.external.Content.{Content}
+use Rattle.zapdu.specs.declared.productions.external.Content.TheVariants.{Single, Aligned, Arbitrary}
+use Rattle.zapdu.specs.declared.productions.external.External.{External}
+use Rattle.zapdu.specs.declared.productions.record.RecordBody.{RecordBody}
+use Rattle.zapdu.specs.declared.productions.record.RecordBody.TheVariants.{Retrieval, Surrogate, Fragment}
+use Rattle.zmarc.specs.declared.format.Format.{Format}
+use Rattle.zmarc.specs.Fields.{title_text, author_text, isbn_text}
+use Rattle.zmarc.specs.Syntaxes.{format_of}
+use Rattle.zopac.specs.declared.opac.OpacRecord.{OpacRecord}
+
+-- the texts of three fields, empty where the record has none
+pub record FieldTexts : Type 0 where
+  pub title : List ℕ
+  pub author : List ℕ
+  pub isbn : List ℕ
+
+-- three texts
+abbrev pub fields_of : List ℕ → List ℕ → List ℕ → FieldTexts
+fields_of title author isbn = record { title = title; author = author; isbn = isbn }
+
+-- no text
+abbrev pub no_fields : FieldTexts
+no_fields = fields_of [] [] []
+
+-- those of a record of MARC
+abbrev pub marc_fields : Format → List ℕ → FieldTexts
+marc_fields format octets = fields_of (title_text format octets) (author_text format octets) (isbn_text format octets)
+
+-- those of octets that are read in a format
+abbrev pub format_fields : Option Format → List ℕ → FieldTexts
+format_fields None octets = no_fields
+format_fields (Some format) octets = marc_fields format octets
+
+-- those of a content in a syntax
+abbrev pub content_fields : Option (List ℕ) → Content → FieldTexts
+content_fields direct (Single e) = no_fields
+content_fields direct (Aligned octets) = format_fields (format_of (unwrap_or direct []) octets) octets
+content_fields direct (Arbitrary bits) = no_fields
+
+-- those of what the target sent
+abbrev pub body_fields : RecordBody → FieldTexts
+body_fields (Retrieval v) = content_fields v.direct v.content
+body_fields (Surrogate d) = no_fields
+body_fields (Fragment e) = no_fields
+
+-- those of a bibliographic record
+abbrev pub bibliographic_fields : Option External → FieldTexts
+bibliographic_fields None = no_fields
+bibliographic_fields (Some v) = content_fields v.direct v.content
+
+-- those of what the target sent, which is a record with its copies or none
+abbrev pub fields_with : RecordBody → Option OpacRecord → FieldTexts
+fields_with body None = body_fields body
+fields_with body (Some o) = bibliographic_fields o.bibliographic
+
+-- the title, or the line of the record if it has none
+abbrev pub title_or : List ℕ → List ℕ → List ℕ
+title_or title line = if length title == 0 then line else title

@@ -1,0 +1,6 @@
+pub mod Catalogues
+pub mod Cells
+pub mod Fields
+pub mod Laws
+pub mod Page
+pub mod Records
