@@ -56,9 +56,12 @@ def tasks(of):
             made[name, "tests"] = waits, tests, count_lines(name)
         if edits:
             first = [(name, "proof"), *[(name, "tests")] * bool(tests)]
+            # (several begin with a proof that they share, and end with a check of it; one alone is a whole check)
             made[name, "once more"] = first, proof if edits > 1 else 0, 0
             for number in range(edits):
-                made[name, f"edit {number}"] = [(name, "once more")], edit, 0
+                made[name, f"edit {number}"] = [(name, "once more")], edit if edits > 1 else proof, 0
+            if edits > 1:
+                made[name, "edit at last"] = [(name, f"edit {it}") for it in range(edits)], edit, 0
     return made
 
 

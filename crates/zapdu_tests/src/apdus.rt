@@ -1,17 +1,17 @@
 // APDUs in octets, worked out by hand from Z39.50-2003, 4.1, and X.690, each tag of each production in one of them; and
 // what they stand for. Of each kind one has all parts that may be absent, and one has none.
-use crate::boxes::{apdu_node, apdu_of};
-use crate::parts::Line;
+use crate::elements::encodings::{PRESENT_RESPONSE, PRESENT_RESPONSE_INDEFINITE};
 use crate::plain::apdu_copy;
 use crate::printed::put_apdu;
 use std::alloc::{AllocError, Global};
 use std::process::Abort;
 use std::test::Fail;
 use zapdu::{Apdu, PresentResponse, Record, Records, print_record};
+use zapdu_rows::boxes::{apdu_node, apdu_of};
+use zapdu_rows::parts::Line;
 use zber::{Body, Node};
-use zber_tests::encodings::{PRESENT_RESPONSE, PRESENT_RESPONSE_INDEFINITE};
-use zber_tests::rows::{each_row, element, encoding, message, octets, pair, spells};
-use zber_tests::unread::{Unread, read};
+use zber_rows::rows::{each_row, element, encoding, message, octets, pair, spells};
+use zber_rows::unread::{Unread, read};
 
 // Canonical encodings, and the fields.
 pub(crate) const APDUS: &str =

@@ -1,9 +1,7 @@
 // Calls that other calls make: an APDU of an element that is given away, and its lines; a record that is given away, a
 // diagnostic in the default format, and octets, as texts. Worked out from docs/FORMATS.md and Z39.50-2003, 4.1.
 use crate::apdus::APDUS;
-use crate::boxes::box_value;
 use crate::misfits::REFUSED;
-use crate::parts::Line;
 use crate::plain::diag_of;
 use crate::printed::put_apdu;
 use crate::records::PRINTED;
@@ -14,9 +12,11 @@ use zapdu::{
     Apdu, DiagRec, from_element, print_default_diag, print_given_record, put_hex, record_of,
 };
 use zapdu_lines::print_apdu;
+use zapdu_rows::boxes::box_value;
+use zapdu_rows::parts::Line;
 use zber::Node;
-use zber_tests::rows::{each_row, element, halves, pair, spells, tells, unescape};
-use zber_tests::unread::{Unread, read};
+use zber_rows::rows::{each_row, element, halves, pair, spells, tells, unescape};
+use zber_rows::unread::{Unread, read};
 
 fn given_apdu(alloc: Global, node: Node) -> Result<Box<Apdu>, Unread> {
     let apdu = read(from_element(alloc, node))?;

@@ -1,10 +1,10 @@
 // The encodings of all tables as one table, with one on each row.
 use crate::apdus::{APDUS, LENGTHS};
+use crate::queries::rows::{KEPT, LONG, OTHERS, READ};
 use crate::servers::SENT;
 use crate::{misfits, records, segments};
 use std::alloc::{AllocError, Global};
-use zber_tests::rows::{pair, split_row};
-use zquery_tests::rows::{KEPT, LONG, OTHERS, READ};
+use zber_rows::rows::{pair, split_row};
 
 // Where an encoding stands in a row: its first word, its second one, its last one, or what is behind the equals sign.
 #[derive(Clone, Copy)]

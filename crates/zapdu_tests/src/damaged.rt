@@ -1,17 +1,17 @@
 // Encodings that are cut off, and encodings of which one octet is another.
-use crate::boxes::diag_node;
 use crate::collected::encodings;
+use crate::elements::scripts::answers_as;
 use crate::plain::{apdu_refusal, diag_of, is_diag, is_record};
+use crate::queries::plain::{inner, is_query};
 use crate::segments::{apdu_encoding, query_encoding, record_encoding};
 use std::alloc::{AllocError, Global};
 use std::process::Abort;
 use std::test::Fail;
 use zapdu::ApduError;
+use zapdu_rows::boxes::diag_node;
 use zber::{FaultKind, FrameError, Framer, Node};
-use zber_tests::rows::{LIMIT, each_row, element, encoding, octets, pair, split_text, tells};
-use zber_tests::scripts::answers_as;
-use zber_tests::unread::{Unread, read};
-use zquery_tests::plain::{inner, is_query};
+use zber_rows::rows::{LIMIT, each_row, element, encoding, octets, pair, split_text, tells};
+use zber_rows::unread::{Unread, read};
 
 // Whether the first so many octets are told to be cut off there.
 fn is_truncated(alloc: Global, digits: &str, at: usize) -> bool {

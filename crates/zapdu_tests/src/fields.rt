@@ -3,21 +3,21 @@
 //!
 //! Of each element, object identifier and query a copy is printed, and of each record and diagnostic a copy of the one
 //! that comes back from its element. So where the text is the due one, both are equal to what was there.
-use crate::boxes::{diag_node, record_node};
-use crate::parts::{Line, put_node, put_number, put_word};
+use crate::elements::shown::bit_digits;
 use crate::plain::{diag_copy, diag_of, record_copy, record_of};
+use crate::queries::plain::{query_copy, query_text};
 use bytes::Bytes;
 use std::alloc::{AllocError, Global};
 use zapdu::{
     Content, DefaultDiag, DiagRec, ElementSetNames, External, Info, Range, Record, RecordBody,
     RecordComposition, Records, SearchQuery,
 };
+use zapdu_rows::boxes::{diag_node, record_node};
+use zapdu_rows::parts::{Line, put_node, put_number, put_word};
 use zber::{Bits, Node, Oid};
-use zber_tests::rows::digits;
-use zber_tests::shown::bit_digits;
-use zber_tests::unread::Unread;
+use zber_rows::rows::digits;
+use zber_rows::unread::Unread;
 use zquery::Query;
-use zquery_tests::plain::{query_copy, query_text};
 
 pub(crate) fn put_some_number(alloc: Global, number: &Option<i64>, out: &mut Line) {
     match number {

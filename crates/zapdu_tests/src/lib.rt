@@ -1,10 +1,8 @@
-//! Octets from outside, each with what it stands for: records and APDUs. And what tests of them and the crates
-//! of tests above have in common.
+//! Octets from outside, each with what it stands for: elements, queries, records and APDUs.
 #![tactic(auto)]
 
 #[cfg(test)]
 mod apdus;
-pub mod boxes;
 #[cfg(test)]
 mod calls;
 #[cfg(test)]
@@ -12,16 +10,19 @@ mod collected;
 #[cfg(test)]
 mod damaged;
 #[cfg(test)]
+mod elements;
+#[cfg(test)]
 mod fields;
 #[cfg(test)]
 mod misfits;
-pub mod parts;
 #[cfg(test)]
 mod perturbed;
 #[cfg(test)]
 mod plain;
 #[cfg(test)]
 mod printed;
+#[cfg(test)]
+mod queries;
 #[cfg(test)]
 mod records;
 #[cfg(test)]

@@ -3,8 +3,8 @@ use crate::plain::apdu_refusal;
 use std::alloc::Global;
 use std::process::Abort;
 use std::test::Fail;
-use zber_tests::rows::{each_row, element, pair, tells};
-use zber_tests::unread::{Unread, read};
+use zber_rows::rows::{each_row, element, pair, tells};
+use zber_rows::unread::{Unread, read};
 
 // Elements and their refusals; a line with `#` says what is wrong with those below it.
 pub(crate) const REFUSED: &str = "\

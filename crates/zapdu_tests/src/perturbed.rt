@@ -1,14 +1,14 @@
 // APDUs of which one element is changed, and where each is refused, worked out from Z39.50-2003, 4.1.
-use crate::boxes::apdu_of;
 use crate::plain::apdu_refusal;
 use bytes::Bytes;
 use std::alloc::{AllocError, Global};
 use std::process::Abort;
 use std::test::Fail;
 use zapdu::{Apdu, ApduError, Kind};
+use zapdu_rows::boxes::apdu_of;
 use zber::{Body, Node, Tag};
-use zber_tests::rows::{each_row, element, pair, tells};
-use zber_tests::unread::Unread;
+use zber_rows::rows::{each_row, element, pair, tells};
+use zber_rows::unread::Unread;
 
 // Kinds and APDUs, and for each change and each element how many elements stand before the fault, in base 36; a dot
 // where none is at fault. In order each element is dropped, doubled, swapped with the next one (the last one stays),

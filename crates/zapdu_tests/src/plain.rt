@@ -1,9 +1,9 @@
 //! Further calls of the layers below, without their contracts and with large values in boxes.
-use crate::boxes::box_value;
 use std::alloc::{AllocError, Global};
 use zapdu::{Apdu, ApduError, DiagRec, Record};
+use zapdu_rows::boxes::box_value;
 use zber::Node;
-use zber_tests::unread::{Unread, read};
+use zber_rows::unread::{Unread, read};
 
 pub(crate) fn apdu_refusal(alloc: Global, node: &Node) -> Option<ApduError> {
     zapdu::from_node(alloc, node).err()

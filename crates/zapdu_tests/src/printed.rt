@@ -4,12 +4,12 @@ use crate::fields::{
     put_some_element_set, put_some_external, put_some_node, put_some_number, put_some_oid,
     put_some_text, put_text, put_texts, put_truth,
 };
-use crate::parts::{Line, put_number, put_word};
 use std::alloc::Global;
 use zapdu::{
     Apdu, Close, InitRequest, InitResponse, PresentRequest, PresentResponse, SearchRequest,
     SearchResponse,
 };
+use zapdu_rows::parts::{Line, put_number, put_word};
 
 fn put_init_request(alloc: Global, request: &InitRequest, out: &mut Line) {
     put_word("initRequest", out);

@@ -1,15 +1,15 @@
 // Records and diagnostics by themselves, worked out from Z39.50-2003, 4.1 (NamePlusRecord, DiagRec), and X.690, 8.18
 // (EXTERNAL): elements that are none, the texts of records, and fragments that are made by hand.
-use crate::boxes::{box_value, record_node};
+use crate::elements::nested::nest_elements;
 use crate::plain::{is_diag, is_record, record_of, record_text};
 use std::alloc::{AllocError, Global};
 use std::process::Abort;
 use std::test::Fail;
 use zapdu::{BuildError, Record, RecordBody};
+use zapdu_rows::boxes::{box_value, record_node};
 use zber::{Node, Tag};
-use zber_tests::nested::nest_elements;
-use zber_tests::rows::{each_row, element, encoding, halves, pair, spells, split_row, tells};
-use zber_tests::unread::{Unread, read};
+use zber_rows::rows::{each_row, element, encoding, halves, pair, spells, split_row, tells};
+use zber_rows::unread::{Unread, read};
 
 // Elements that are no record, or no diagnostic; a line with `#` says what is wrong with those below it.
 pub(crate) const OTHERS: &str = "\

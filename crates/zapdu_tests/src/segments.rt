@@ -1,16 +1,16 @@
 // Strings in constructed form (X.690, 8.7.3 and 8.23): by themselves, and at each place of APDUs and queries.
 use crate::apdus::APDUS;
-use crate::boxes::{apdu_node, apdu_of, record_node};
+use crate::elements::shown::string;
 use crate::plain::record_of;
+use crate::queries::plain::{query_node, query_of};
 use bytes::Bytes;
 use std::alloc::{AllocError, Global};
 use std::process::Abort;
 use std::test::Fail;
+use zapdu_rows::boxes::{apdu_node, apdu_of, record_node};
 use zber::{Body, Node, Tag};
-use zber_tests::rows::{each_row, element, encoding, pair, tells};
-use zber_tests::shown::string;
-use zber_tests::unread::{Unread, read};
-use zquery_tests::plain::{query_node, query_of};
+use zber_rows::rows::{each_row, element, encoding, pair, tells};
+use zber_rows::unread::{Unread, read};
 
 // Elements, and the octets of the strings that they are, or why they are none; a line with `#` says what those below it
 // have.

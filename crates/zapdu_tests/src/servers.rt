@@ -3,8 +3,8 @@ use crate::apdus::is_line;
 use std::alloc::Global;
 use std::process::Abort;
 use std::test::Fail;
-use zber_tests::rows::{each_row, octets, pair};
-use zber_tests::unread::Unread;
+use zber_rows::rows::{each_row, octets, pair};
+use zber_rows::unread::Unread;
 
 // What is sent, its canonical encoding, and its fields; a line with `#` says what the one below it is.
 pub(crate) const SENT: &str =

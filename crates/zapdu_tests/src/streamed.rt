@@ -8,8 +8,8 @@ use std::alloc::{AllocError, Global};
 use std::process::Abort;
 use std::test::Fail;
 use zber::{Node, Oid, Tag, ValueError};
-use zber_tests::rows::{encoding, message, tells};
-use zber_tests::unread::{Unread, read};
+use zber_rows::rows::{encoding, message, tells};
+use zber_rows::unread::{Unread, read};
 
 // So many octets.
 fn make_octets(alloc: Global, count: u32) -> Result<Bytes, Unread> {

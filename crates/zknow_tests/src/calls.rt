@@ -4,10 +4,10 @@ use crate::facts::{fact, has_facts, knowledge_of, nothing};
 use std::alloc::{AllocError, Global};
 use std::process::Abort;
 use std::test::Fail;
-use zapdu_tests::boxes::box_value;
+use zapdu_rows::boxes::box_value;
 use zber::Oid;
-use zber_tests::rows::{each_row, halves, pair, spells, split_row, tells};
-use zber_tests::unread::Unread;
+use zber_rows::rows::{each_row, halves, pair, spells, split_row, tells};
+use zber_rows::unread::Unread;
 use zknow::{Join, Knowledge, RowKey};
 use zknow_records::{LeftOut, write_records};
 

@@ -4,15 +4,15 @@ ghost use Rattle.zapdu.specs.Place.{IsSpellable};
 ghost use Rattle.zapdu.specs.Productions.Records.{whole_record};
 ghost use Rattle.zknow.specs.Facts.{IsFact};
 
-use crate::shown::{put_counts, put_facts, put_known};
 use std::alloc::{AllocError, Global};
 use zapdu::{DiagRec, Record, diag_of, record_of};
-use zapdu_tests::boxes::box_value;
-use zapdu_tests::parts::Line;
+use zapdu_rows::boxes::box_value;
+use zapdu_rows::parts::Line;
 use zber::Node;
-use zber_tests::rows::{element, pair};
-use zber_tests::unread::{Unread, read};
+use zber_rows::rows::{element, pair};
+use zber_rows::unread::{Unread, read};
 use zknow::{Fact, Knowledge};
+use zknow_rows::shown::{put_counts, put_facts, put_known};
 
 // The element that a word names: digits; or of two octets, a record of them in the syntax 1.2.840.10003.5.10 with the
 // shortest lengths; or behind `~` the same with longer lengths.

@@ -3,8 +3,8 @@ use crate::saved::{Loaded, load_octets};
 use std::alloc::Global;
 use std::process::Abort;
 use std::test::Fail;
-use zber_tests::rows::spells;
-use zber_tests::unread::Unread;
+use zber_rows::rows::spells;
+use zber_rows::unread::Unread;
 use zknow_json::print_json;
 use zknow_stops::Stop;
 

@@ -1,13 +1,13 @@
 // What is known: facts in every order, twice, absorbed and copied; two values at one place; the printed list.
 use crate::facts::{add, copy_of, has_facts, is_at, is_count, knowledge_of, nothing};
 use crate::reference::{Noted, list, note};
-use crate::shown::{has_list, is_listed};
 use std::alloc::{AllocError, Global};
 use std::process::Abort;
 use std::test::Fail;
-use zber_tests::rows::{each_row, halves, is_true, pair, spells, unescape};
-use zber_tests::unread::Unread;
+use zber_rows::rows::{each_row, halves, is_true, pair, spells, unescape};
+use zber_rows::unread::Unread;
 use zknow::{Knowledge, Mode};
+use zknow_rows::shown::{has_list, is_listed};
 
 // What a search and two requests for records gave, the first for the positions 1 to 3, the second for 2 to 4.
 const SEARCH: &str = "count 0 1 4";

@@ -1,5 +1,5 @@
-//! What is known, told by rows of facts and saved files; its views for readers and in JSON, and the lines of records in
-//! MARC.
+//! What is known, told by rows of facts and saved files; its views for readers, for browsers and in JSON, and the lines
+//! of records in MARC and of holdings.
 #![tactic(auto)]
 
 #[cfg(test)]
@@ -13,10 +13,15 @@ mod known;
 #[cfg(test)]
 mod marc;
 #[cfg(test)]
+mod markup;
+#[cfg(test)]
+mod opacs;
+#[cfg(test)]
+mod pages;
+#[cfg(test)]
 mod reference;
 #[cfg(test)]
 mod saved;
-pub mod shown;
 #[cfg(test)]
 mod shuffled;
 #[cfg(test)]

@@ -2,7 +2,7 @@
 use std::alloc::{AllocError, Global};
 use std::process::Abort;
 use std::test::Fail;
-use zber_tests::rows::tells;
+use zber_rows::rows::tells;
 use zmarc::{Charset, Format, find_year, put_brief, put_text};
 
 // A record, how it is read, and the line that is wanted.

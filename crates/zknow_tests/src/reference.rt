@@ -2,10 +2,10 @@
 use crate::facts::fact;
 use std::alloc::{AllocError, Global};
 use zapdu::{DiagRec, Record, print_diag, print_record, quote};
-use zapdu_tests::boxes::{box_value, diag_node, record_node};
-use zapdu_tests::parts::Line;
-use zber_tests::rows::encoding;
-use zber_tests::unread::{Unread, read};
+use zapdu_rows::boxes::{box_value, diag_node, record_node};
+use zapdu_rows::parts::Line;
+use zber_rows::rows::encoding;
+use zber_rows::unread::{Unread, read};
 use zknow::Fact;
 
 /// A fact, and the text by which facts stand in fact order.

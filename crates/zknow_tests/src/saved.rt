@@ -4,10 +4,10 @@ use bytes::Bytes;
 use std::alloc::{AllocError, Global};
 use std::process::Abort;
 use std::test::Fail;
-use zapdu_tests::boxes::box_value;
+use zapdu_rows::boxes::box_value;
 use zber::Seq;
-use zber_tests::rows::{each_row, octets, pair, spells};
-use zber_tests::unread::Unread;
+use zber_rows::rows::{each_row, octets, pair, spells};
+use zber_rows::unread::Unread;
 use zknow::{Knowledge, LoadError, Names, SaveError, load, save};
 
 fn save_octets(alloc: Global, knowledge: &Knowledge, names: &Names) -> Result<Vec<u8>, Unread> {

@@ -3,14 +3,14 @@
 use crate::facts::nothing;
 use crate::known::add_in_order;
 use crate::reference::{facts_of, list};
-use crate::shown::has_list;
 use std::alloc::{AllocError, Global};
 use std::process::Abort;
 use std::test::Fail;
-use zber_tests::dice::Dice;
-use zber_tests::rows::each_row;
-use zber_tests::unread::Unread;
+use zber_rows::dice::Dice;
+use zber_rows::rows::each_row;
+use zber_rows::unread::Unread;
 use zknow::{Knowledge, Mode};
+use zknow_rows::shown::has_list;
 
 // Records: three with the octets of one syntax, one of them twice in different lengths; a surrogate diagnostic, a
 // fragment and an element.

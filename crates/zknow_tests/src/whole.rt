@@ -4,8 +4,8 @@ use crate::titles::{COPIES, EXAMPLE, SYNTAXES};
 use std::alloc::{AllocError, Global};
 use std::process::Abort;
 use std::test::Fail;
-use zber_tests::rows::spells;
-use zber_tests::unread::Unread;
+use zber_rows::rows::spells;
+use zber_rows::unread::Unread;
 use zknow_titles::print_fields;
 use zmarc::{Format, put_lines};
 

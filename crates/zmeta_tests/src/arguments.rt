@@ -3,8 +3,8 @@ use crate::answers::words_of;
 use std::alloc::Global;
 use std::process::Abort;
 use std::test::Fail;
-use zber_tests::rows::{each_row, halves};
-use zber_tests::unread::{Unread, read};
+use zber_rows::rows::{each_row, halves};
+use zber_rows::unread::{Unread, read};
 use zmeta_args::parse;
 
 const ASKED: &str = "\

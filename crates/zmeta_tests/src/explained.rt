@@ -2,8 +2,8 @@
 use std::alloc::Global;
 use std::process::Abort;
 use std::test::Fail;
-use zber_tests::rows::{each_row, halves, pair, unescape};
-use zber_tests::unread::Unread;
+use zber_rows::rows::{each_row, halves, pair, unescape};
+use zber_rows::unread::Unread;
 use zmeta_explain::put_line_words;
 
 // The number of a line, the world that has it, and the words for it.

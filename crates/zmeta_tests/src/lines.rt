@@ -7,8 +7,8 @@ use std::alloc::Global;
 use std::io::ErrorKind;
 use std::process::Abort;
 use std::test::Fail;
-use zber_tests::rows::{each_row, halves, pair, unescape};
-use zber_tests::unread::Unread;
+use zber_rows::rows::{each_row, halves, pair, unescape};
+use zber_rows::unread::Unread;
 
 const CLOSE: &[u8] = b"BF 30 05 9F 81 53 01 00";
 

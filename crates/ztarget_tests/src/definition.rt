@@ -4,8 +4,8 @@ use crate::targets::{database, places_found};
 use std::alloc::{AllocError, Global};
 use std::process::Abort;
 use std::test::Fail;
-use zber_tests::dice::Dice;
-use zber_tests::unread::Unread;
+use zber_rows::dice::Dice;
+use zber_rows::unread::Unread;
 use zquery::{Attr, AttrValue, Query, Rpn, TermValue};
 use ztarget::{Database, Entry, Target};
 

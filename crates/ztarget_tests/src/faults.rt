@@ -5,8 +5,8 @@ use bytes::Bytes;
 use std::alloc::{AllocError, Global};
 use std::process::Abort;
 use std::test::Fail;
-use zber_tests::rows::{each_row, halves, split_row};
-use zber_tests::unread::{Unread, read};
+use zber_rows::rows::{each_row, halves, split_row};
+use zber_rows::unread::{Unread, read};
 use zquery::Query;
 use ztarget::{MatchError, Target};
 

@@ -4,10 +4,10 @@ use bytes::Bytes;
 use std::alloc::Global;
 use std::process::Abort;
 use std::test::Fail;
-use zapdu_tests::boxes::{box_value, parse};
+use zapdu_rows::boxes::{box_value, parse};
 use zber::{Oid, Seq};
-use zber_tests::rows::{each_row, halves, split_row, unescape};
-use zber_tests::unread::{Unread, read};
+use zber_rows::rows::{each_row, halves, split_row, unescape};
+use zber_rows::unread::{Unread, read};
 use zquery::{Attr, AttrValue, Query, Rpn, TermValue};
 use ztarget::{Target, TargetSettings};
 

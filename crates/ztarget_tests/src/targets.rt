@@ -4,10 +4,10 @@ use std::alloc::{AllocError, Global};
 use std::process::Abort;
 use std::test::Fail;
 use zapdu::Apdu;
-use zapdu_tests::boxes::{apdu, apdu_node, box_value};
+use zapdu_rows::boxes::{apdu, apdu_node, box_value};
 use zber::{Oid, Seq};
-use zber_tests::rows::{encoding, pair, split_row, tells, unescape};
-use zber_tests::unread::{Unread, read};
+use zber_rows::rows::{encoding, pair, split_row, tells, unescape};
+use zber_rows::unread::{Unread, read};
 use zquery::Query;
 use ztarget::{Database, Entry, Field, MatchError, Target, TargetError, TargetSettings};
 

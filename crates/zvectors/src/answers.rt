@@ -3,11 +3,11 @@ use crate::sessions::go_as_told;
 use std::alloc::Global;
 use std::test::Fail;
 use zapdu::Apdu;
-use zapdu_tests::boxes::apdu;
-use zapdu_tests::parts::Line;
-use zber_tests::unread::{Unread, read};
+use zapdu_rows::boxes::apdu;
+use zapdu_rows::parts::Line;
+use zber_rows::unread::{Unread, read};
 use zknow::Fact;
-use zknow_tests::shown::put_facts;
+use zknow_rows::shown::put_facts;
 use zorigin::{Origin, Taken, facts_of};
 
 // Sessions in which `facts` takes a reply and answers its facts, for target 7.

@@ -6,8 +6,8 @@ use bytes::Bytes;
 use std::alloc::{AllocError, Global};
 use std::process::Abort;
 use std::test::Fail;
-use zber_tests::rows::{each_row, halves, unescape};
-use zber_tests::unread::Unread;
+use zber_rows::rows::{each_row, halves, unescape};
+use zber_rows::unread::Unread;
 use zmeta_world::in_memory::InMemoryRun;
 use zmeta_world::world::{WorldError, read_world};
 

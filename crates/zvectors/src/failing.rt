@@ -4,8 +4,8 @@ ghost use Rattle.std.specs.Prelude.{◌<◌, length};
 use crate::talks::{Case, has, new_meta, reads_of, sink_of, source_of, whole, writes_of};
 use std::alloc::Global;
 use std::test::Fail;
-use zber_tests::rows::octets;
-use zber_tests::unread::Unread;
+use zber_rows::rows::octets;
+use zber_rows::unread::Unread;
 use zoom::{Meta, Reason, State, TalkError, talk};
 
 // The most octets of a call.

@@ -4,8 +4,8 @@ use crate::talks::{Case, has, new_meta, sink_of, source_of, written_digits};
 use std::alloc::Global;
 use std::process::Abort;
 use std::test::Fail;
-use zber_tests::rows::{each_row, split_row, tells};
-use zber_tests::unread::{Unread, read};
+use zber_rows::rows::{each_row, split_row, tells};
+use zber_rows::unread::{Unread, read};
 use zoom::{Failed, Sink, Source, push};
 
 // Which write fails (the first being 1; each takes three octets), then what a push answers where Init waits, the state,

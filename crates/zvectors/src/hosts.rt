@@ -2,9 +2,9 @@
 use std::alloc::{AllocError, Global};
 use std::process::Abort;
 use std::test::Fail;
-use zapdu_tests::boxes::box_value;
-use zber_tests::rows::{digits, each_row, is_true, octets, pair, split_row, tells};
-use zber_tests::unread::{Unread, read};
+use zapdu_rows::boxes::box_value;
+use zber_rows::rows::{digits, each_row, is_true, octets, pair, split_row, tells};
+use zber_rows::unread::{Unread, read};
 use zoom::Host;
 use ztarget::{Target, TargetSettings};
 

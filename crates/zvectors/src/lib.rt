@@ -1,11 +1,13 @@
-//! Sessions of origins, pools, hosts and driven connections, step by step, and world files that are read: the tests
-//! that cross the crates above what is known.
+//! Sessions of origins, pools, hosts and driven connections, step by step, world files that are read, and hosts that are
+//! asked under a clock: the tests that cross the crates above what is known.
 #![tactic(auto)]
 
 #[cfg(test)]
 mod answers;
 #[cfg(test)]
 mod arranged;
+#[cfg(test)]
+mod asking;
 #[cfg(test)]
 mod failing;
 #[cfg(test)]
@@ -20,6 +22,8 @@ mod moves;
 mod pool;
 #[cfg(test)]
 mod refusals;
+#[cfg(test)]
+mod seeds;
 #[cfg(test)]
 mod sessions;
 #[cfg(test)]

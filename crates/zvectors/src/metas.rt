@@ -7,10 +7,10 @@ use bytes::Bytes;
 use std::alloc::{AllocError, Global};
 use std::process::Abort;
 use std::test::Fail;
-use zapdu_tests::boxes::{box_value, parse};
+use zapdu_rows::boxes::{box_value, parse};
 use zber::Seq;
-use zber_tests::rows::{digits, each_row, is_true, octets, pair, tells};
-use zber_tests::unread::{Unread, read};
+use zber_rows::rows::{digits, each_row, is_true, octets, pair, tells};
+use zber_rows::unread::{Unread, read};
 use zoom::{Meta, MetaSettings, Question};
 use zorigin::Range;
 

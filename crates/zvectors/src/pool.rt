@@ -11,12 +11,12 @@ use bytes::Bytes;
 use std::alloc::{AllocError, Global};
 use std::process::Abort;
 use std::test::Fail;
-use zapdu_tests::boxes::box_value;
-use zapdu_tests::parts::Line;
-use zber_tests::rows::{digits, is_true, octets, pair, split_row, tells, unescape};
-use zber_tests::unread::{Unread, read};
+use zapdu_rows::boxes::box_value;
+use zapdu_rows::parts::Line;
+use zber_rows::rows::{digits, is_true, octets, pair, split_row, tells, unescape};
+use zber_rows::unread::{Unread, read};
 use zknow::Mode;
-use zknow_tests::shown::{has_list, is_listed, put_counts, put_known};
+use zknow_rows::shown::{has_list, is_listed, put_counts, put_known};
 use zoom::{Call, Pool, Reason, ResultSet, Step, TakeError};
 use zorigin::CallRefused;
 

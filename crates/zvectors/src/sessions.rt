@@ -10,10 +10,10 @@ use std::alloc::{AllocError, Global};
 use std::process::Abort;
 use std::test::Fail;
 use zapdu::Apdu;
-use zapdu_tests::boxes::{apdu, box_value, parse};
+use zapdu_rows::boxes::{apdu, box_value, parse};
 use zber::{Oid, Seq};
-use zber_tests::rows::{is_true, pair, split_row, split_text};
-use zber_tests::unread::{Unread, read};
+use zber_rows::rows::{is_true, pair, split_row, split_text};
+use zber_rows::unread::{Unread, read};
 use zoom::Call;
 use zorigin::{Ask, CallRefused, Origin, Range, Refused, Sent, Settings, Taken};
 

@@ -9,10 +9,10 @@ use std::io;
 use std::io::{ErrorKind, Read, Write};
 use std::process::Abort;
 use std::test::Fail;
-use zapdu_tests::boxes::{box_value, parse};
+use zapdu_rows::boxes::{box_value, parse};
 use zber::Seq;
-use zber_tests::rows::{digits, each_row, octets, pair, split_row, tells};
-use zber_tests::unread::{Unread, read};
+use zber_rows::rows::{digits, each_row, octets, pair, split_row, tells};
+use zber_rows::unread::{Unread, read};
 use zoom::{Counting, Meta, MetaSettings, Question, answer, talk};
 
 // What can be read, how much a call moves, which read and which write fails (the first being 1), and how many reads

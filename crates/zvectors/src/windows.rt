@@ -5,9 +5,9 @@ use std::alloc::Global;
 use std::process::Abort;
 use std::test::Fail;
 use zapdu::Apdu;
-use zapdu_tests::boxes::apdu;
-use zber_tests::rows::{is_true, tells};
-use zber_tests::unread::Unread;
+use zapdu_rows::boxes::apdu;
+use zber_rows::rows::{is_true, tells};
+use zber_rows::unread::Unread;
 use zorigin::{Origin, Refused, Taken};
 
 // An association with concurrent operations, and a set of 100 records.

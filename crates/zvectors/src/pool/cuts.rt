@@ -5,9 +5,9 @@ use crate::sessions::call;
 use std::alloc::Global;
 use std::process::Abort;
 use std::test::Fail;
-use zapdu_tests::boxes::box_value;
-use zber_tests::rows::{is_true, octets};
-use zber_tests::unread::{Unread, read};
+use zapdu_rows::boxes::box_value;
+use zber_rows::rows::{is_true, octets};
+use zber_rows::unread::{Unread, read};
 use zoom::{Call, Pool, Step};
 
 // Requests for the positions 1 to 3 and 2 to 4.

@@ -4,8 +4,8 @@ use crate::sessions::is_due;
 use std::alloc::{AllocError, Global};
 use std::process::Abort;
 use std::test::Fail;
-use zber_tests::rows::{is_true, pair, split_row};
-use zber_tests::unread::{Unread, read};
+use zber_rows::rows::{is_true, pair, split_row};
+use zber_rows::unread::{Unread, read};
 use zoom::Pool;
 
 // The words of an origin for an answer of a pool.

@@ -1,0 +1,11 @@
+// Elements of BER: messages in pieces, headers, values and identifiers.
+pub(crate) mod encodings;
+mod framing;
+mod headers;
+mod identifiers;
+pub(crate) mod nested;
+mod pieces;
+mod readers;
+pub(crate) mod scripts;
+pub(crate) mod shown;
+mod values;

@@ -1,0 +1,6 @@
+-- the questions so far are within their limits
+use Rattle.zoom.specs.Askable.{AreAskable}
+use Rattle.zvectors.proofs.asking.catalogues.questions.Given as goal
+
+abbrev pub invariant-loop-made : goal.invariant-loop-made
+invariant-loop-made l = AreAskable l.questions.items
