@@ -7,6 +7,7 @@
 # make show          prints the records of an example message
 # make interop       tries zmeta with other programs that speak Z39.50, if they are installed
 # make hostile       sends zmeta what strangers may send: a million messages and a million replies
+# make page-check    opens pages of zmeta in a browser, if Chromium is installed, and takes their pictures
 # make wrong-bodies  tries the wrong bodies that make test leaves out, in some hours
 #
 # make install       puts the program, its man page and its completions below PREFIX, and DESTDIR before that
@@ -27,7 +28,7 @@ bash = $(DESTDIR)$(PREFIX)/share/bash-completion/completions
 zsh = $(DESTDIR)$(PREFIX)/share/zsh/site-functions
 fish = $(DESTDIR)$(PREFIX)/share/fish/vendor_completions.d
 
-.PHONY: demo test quick program show interop hostile wrong-bodies install uninstall dist deb package-check
+.PHONY: demo test quick program show interop hostile page-check wrong-bodies install uninstall dist deb package-check
 
 demo: program
 	scripts/demo
@@ -58,6 +59,9 @@ interop:
 
 hostile:
 	tests/hostile/check.py
+
+page-check:
+	tests/pages/check
 
 wrong-bodies:
 	tests/mutants/check

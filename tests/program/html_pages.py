@@ -1,6 +1,7 @@
 #!/usr/bin/env python3
 """Reads the pages that `--html` prints by Python's HTML parser, and compares them with the JSON of the same facts: each record has its row,
-with its year, title, author and ISBN. A page has no element that runs or loads something, and its policy names its style sheet.
+with its year, title, author and ISBN, and with its lines of `--fields` behind the title. The rows of catalogues add up. A page has no
+element that runs or loads something, and its policy names its style sheet.
 
     ZMETA=PROGRAM python3 tests/program/html_pages.py"""
 
@@ -28,17 +29,18 @@ ASKED = (
     ["join", "empty", "empty"],
 )
 TAGS = set(
-    "html head meta title style body header main h1 h2 section div table thead tbody tr th td ul li meter span p strong".split()
+    "html head meta title style body main h1 h2 section div table thead tbody tr th td ul li meter strong details summary".split()
 )
 
 
 class Page(html.parser.HTMLParser):
-    """The cells of the rows of records, the heading, the style sheet, and the tags and attributes that stand there."""
+    """Of each class of rows the texts of their cells, and the lines that a reader opens; the heading, the style sheet, and the tags and
+    attributes that stand there."""
 
     def __init__(self, text):
         super().__init__(convert_charrefs=True)
-        self.tags, self.names, self.rows, self.texts, self.policy = set(), set(), [], {"h1": "", "title": "", "style": ""}, ""
-        self.open, self.cell = [], None
+        self.tags, self.names, self.texts, self.policy = set(), set(), {"h1": "", "title": "", "style": ""}, ""
+        self.records, self.catalogues, self.lines, self.open, self.row = [], [], [], [], None
         self.feed(text)
         self.close()
 
@@ -51,10 +53,14 @@ class Page(html.parser.HTMLParser):
         if tag == "meta":
             return
         self.open.append(tag)
-        if tag == "tr" and said.get("class") in ("record", "differs"):
-            self.rows.append([])
-        if tag in ("td", "th") and self.rows and "thead" not in self.open:
-            self.rows[-1].append("")
+        if tag == "tr":
+            self.row = []
+            if "class" in said:
+                (self.records if said["class"] in ("record", "differs") else self.catalogues).append(self.row)
+        elif tag in ("td", "th"):
+            self.row.append("")
+        elif tag == "li" and len(self.row) in (4, 7) and self.records:
+            self.lines.append("")
 
     def handle_endtag(self, tag):
         if not self.open or self.open.pop() != tag:
@@ -63,8 +69,10 @@ class Page(html.parser.HTMLParser):
     def handle_data(self, text):
         if self.open and self.open[-1] in self.texts:
             self.texts[self.open[-1]] += text
-        elif "td" in self.open and self.rows:
-            self.rows[-1][-1] += text
+        elif "li" in self.open and self.records:
+            self.lines[-1] += text
+        elif "tr" in self.open and "details" not in self.open:
+            self.row[-1] += text
 
 
 def shown(zmeta, room, words, *more):
@@ -82,15 +90,35 @@ def records_of(lines):
 
 
 def fault_of_rows(page, records):
-    if len(page.rows) != len(records):
-        return f"{len(page.rows)} rows, and {len(records)} records"
-    for row, said in zip(page.rows, records):
+    if len(page.records) != len(records):
+        return f"{len(page.records)} rows, and {len(records)} records"
+    for row, said in zip(page.records, records):
         place = str(said["position"]), said.get("catalogue") or f"#{said['catalogueNumber']}"
         if row[0] != place[0] or not row[1].startswith(place[1]):
             return f"the row {row} stands for {said}"
         wanted = [said.get("year", ""), said.get("title", row[3]), said.get("author", ""), said.get("isbn", "")]
         if row[2:6] != wanted:
             return f"the row {row} has other fields than {wanted}"
+    return None
+
+
+def fault_of_catalogues(page):
+    """What is found is shown, refused or missing."""
+    for row in page.catalogues:
+        found, *parts = row[1:5]
+        if found.isdecimal() and int(found) != sum(map(int, parts)) and parts[2] != "0":
+            return f"the row {row} does not add up"
+        if not found.isdecimal() and parts[2]:
+            return f"the row {row} has a number of missing records"
+    return None
+
+
+def fault_of_lines(page, view):
+    """Each line that a reader opens, and each copy, stands in the view of whole records, in order."""
+    lines = iter(it.strip() for it in view.splitlines())
+    for line in page.lines:
+        if line.strip() not in lines:
+            return f"the view of whole records has no {line!r} here"
     return None
 
 
@@ -111,7 +139,8 @@ def fault_of(zmeta, room, words):
         return f"the policy is {page.policy}, and the style sheet's sum is {digest}"
     if page.texts["h1"] != page.texts["title"] or page.texts["h1"] != HEADING.replace("\u202e", "\ufffd"):
         return f"the heading is {page.texts['h1']!r}"
-    return fault_of_rows(page, [*records_of(lines)])
+    view = shown(zmeta, room, words, "--fields")[1]
+    return fault_of_rows(page, [*records_of(lines)]) or fault_of_catalogues(page) or fault_of_lines(page, view)
 
 
 def faults(zmeta, room):

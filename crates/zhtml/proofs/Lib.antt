@@ -3,3 +3,4 @@ pub mod NameTheory
 pub mod ReadTheory
 pub mod References
 pub mod TextTheory
+pub mod TableTheory

@@ -11,7 +11,7 @@ use Rattle.zhtml.specs.Trees.{Nodes, nothing, text_octet, element_of, void_of, s
 use Rattle.zhtml.proofs.ReadTheory.{followed}
 use Rattle.zhtml.proofs.TextTheory.{sheet_is_sound}
 
-print_followed : (a b : Nodes) → print (followed a b) ≡ print a ++ print b
+pub print_followed : (a b : Nodes) → print (followed a b) ≡ print a ++ print b
 print_followed nothing b = refl
 print_followed (text_octet x rest) b =
     ap (λ l. escaped_octet x ++ l) (print_followed rest b) ∙ sym (append_assoc (escaped_octet x) (print rest) (print b))
@@ -24,7 +24,7 @@ print_followed (void_of v attributes rest) b =
 print_followed (style_of octets rest) b =
     ap (λ l. styled octets ++ l) (print_followed rest b) ∙ sym (append_assoc (styled octets) (print rest) (print b))
 
-sound_followed : (a b : Nodes) → HasSoundSheets a → HasSoundSheets b → HasSoundSheets (followed a b)
+pub sound_followed : (a b : Nodes) → HasSoundSheets a → HasSoundSheets b → HasSoundSheets (followed a b)
 sound_followed nothing b h k = k
 sound_followed (text_octet x rest) b h k = sound_followed rest b h k
 sound_followed (element_of e attributes inside rest) b h k = (h.0, sound_followed rest b h.1 k)
@@ -41,16 +41,16 @@ append_is_markup a b first then = record {
   sheets = sound_followed first.nodes then.nodes first.sheets then.sheets;
 }
 
-abbrev octets_of : List ℕ → Nodes
+abbrev pub octets_of : List ℕ → Nodes
 octets_of [] = nothing
 octets_of (x ∷ octets) = text_octet x (octets_of octets)
 
-print_octets : (octets : List ℕ) → print (octets_of octets) ≡ escaped octets
+pub print_octets : (octets : List ℕ) → print (octets_of octets) ≡ escaped octets
 unfolding escaped
 print_octets [] = refl
 print_octets (x ∷ octets) = ap (λ l. escaped_octet x ++ l) (print_octets octets)
 
-sound_octets : (octets : List ℕ) → HasSoundSheets (octets_of octets)
+pub sound_octets : (octets : List ℕ) → HasSoundSheets (octets_of octets)
 sound_octets [] = tt
 sound_octets (x ∷ octets) = sound_octets octets
 

@@ -9,8 +9,8 @@ use Rattle.zhtml.specs.Reader.{read}
 use Rattle.zhtml.specs.Texts.{visible, text}
 use Rattle.zhtml.specs.Trees.{Nodes, print, HasSoundSheets}
 
--- The text of nodes, read back, is the nodes. So no octet of a text or of a value begins a tag, ends a value or begins a
--- character reference.
+-- The text of nodes, read back, is the nodes. So no octet of a text or of a value begins a tag, ends a value or begins
+-- a character reference.
 abbrev pub ReadLaw : Type 0
 ReadLaw = (nodes : Nodes) → HasSoundSheets nodes → read (print nodes) ≡ Some nodes
 

@@ -179,8 +179,8 @@ tokens_from (c ∷ octets) m = after_step (tokens_from octets) (step m c)
 
 -- ---- the tree
 
--- What tokens leave open, read from the last to the first: the nodes so far, and for each end tag whose start tag is not
--- reached yet, from the innermost on, its element and the nodes behind it.
+-- What tokens leave open, read from the last to the first: the nodes so far, and for each end tag whose start tag is
+-- not reached yet, from the innermost on, its element and the nodes behind it.
 abbrev pub Open : Type 0
 Open = Nodes × List (Element × Nodes)
 

@@ -1,1 +1,3 @@
+pub mod CellTheory
 pub mod PageTheory
+pub mod RowTheory

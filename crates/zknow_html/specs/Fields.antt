@@ -1,4 +1,5 @@
--- The title, the author and the ISBN of a record of MARC; of a record with its copies those of the bibliographic record.
+-- The title, the author and the ISBN of a record of MARC; of a record with its copies those of the bibliographic
+-- record.
 use Rattle.std.specs.Prelude.{ℕ, ◌==◌, if◌then◌else◌, Option, Some, None, unwrap_or, List, [], length}
 use Rattle.zapdu.specs.declared.productions.external.Content.{Content}
 use Rattle.zapdu.specs.declared.productions.external.Content.TheVariants.{Single, Aligned, Arbitrary}

@@ -1,10 +1,16 @@
--- The page is a document of the small HTML, whatever the heading, the names, the stops and the facts are.
-use Rattle.std.specs.Prelude.{◌≡◌, ℕ, Option, List, ◌++◌}
+-- The page is a document of the small HTML, whatever the heading, the names, the stops and the facts are; and read back
+-- it has each row of the view once.
+use Rattle.std.specs.Prelude.{◌≡◌, ℕ, Option, Some, List, ◌++◌}
 use Rattle.zhtml.specs.Laws.{IsMarkup}
 use Rattle.zhtml.specs.Markup.{doctype}
+use Rattle.zhtml.specs.Reader.{read}
+use Rattle.zhtml.specs.Tables.{RowText, rows_in}
+use Rattle.zhtml.specs.Trees.{Nodes}
 use Rattle.zknow.specs.declared.fact.Fact.{Fact}
 use Rattle.zknow_stops.specs.declared.stop.Stop.{Stop}
+use Rattle.zknow_titles.specs.Names.{shown_names}
 use Rattle.zknow_html.specs.Page.{page}
+use Rattle.zknow_html.specs.Rows.{row_texts}
 
 -- the text of nodes behind what a document begins with: read back, it is these nodes (`read_law` of `zhtml`)
 pub record IsDocument (octets : List ℕ) : Type 0 where
@@ -17,3 +23,20 @@ abbrev pub PageLaw : Type 0
 PageLaw =
     (heading : List ℕ) (names : List (List ℕ)) (stops : List (Option Stop)) (facts : List Fact)
     → IsDocument (page heading names stops facts)
+
+-- ---- rows
+
+-- Behind what a document begins with stands what a reader of HTML reads as a tree. The rows in it that have a class,
+-- wherever they stand, are these, in this order: none is lost, and none is there twice.
+pub record HasRowTexts (octets : List ℕ) (rows : List RowText) : Type 0 where
+  pub inside : List ℕ
+  pub made : doctype ++ inside ≡ octets
+  pub tree : Nodes
+  pub read_back : read inside ≡ Some tree
+  pub rows_are : rows_in tree ≡ rows
+
+-- the rows of the page, whatever the heading, the names, the stops and the facts are
+abbrev pub RowsLaw : Type 0
+RowsLaw =
+    (heading : List ℕ) (names : List (List ℕ)) (stops : List (Option Stop)) (facts : List Fact)
+    → HasRowTexts (page heading names stops facts) (row_texts (shown_names names) stops facts)

@@ -4,3 +4,4 @@ pub mod Fields
 pub mod Laws
 pub mod Page
 pub mod Records
+pub mod Rows

@@ -4,7 +4,8 @@ use Rattle.zknow.specs.declared.fact.Fact.{Fact}
 use Rattle.zknow_stops.specs.declared.stop.Stop.{Stop}
 use Rattle.zknow_titles.specs.Names.{shown_names}
 use Rattle.zknow_titles.specs.Titles.{sets_of, rows_of}
-use Rattle.zhtml.specs.declared.attributes.AttributeName.TheVariants.{Lang, Charset, HttpEquiv, Name, Content, Class, Id, Role, Tabindex, AriaLabelledby}
+use Rattle.zhtml.specs.declared.attributes.AttributeName.TheVariants.{Lang, Charset, HttpEquiv, Name, Content, Class}
+use Rattle.zhtml.specs.declared.attributes.AttributeName.TheVariants.{Id, Role, Tabindex, AriaLabelledby}
 use Rattle.zhtml.specs.declared.elements.Element.TheVariants.{Html, Head, Title, Body, Main, Section, Div, H1, H2}
 use Rattle.zhtml.specs.declared.elements.VoidElement.TheVariants.{Meta}
 use Rattle.zhtml.specs.Markup.{Pair, attribute_of, start_tag, end_tag, element, void_element, style_element, doctype}

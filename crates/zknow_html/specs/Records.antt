@@ -1,4 +1,4 @@
--- The table of records: position, catalogue, year, title, author, ISBN, copies.
+-- The table of records: position, catalogue, year, title with all fields behind it, author, ISBN, copies.
 use Rattle.std.specs.Prelude.{ℕ, Option, List, [], ◌∷◌, ◌++◌, codes, length}
 use Rattle.std.specs.Fmt.{decimal, signed_decimal}
 use Rattle.std.specs.List.{flat_map}
@@ -9,34 +9,36 @@ use Rattle.zknow.specs.Known.{records_at}
 use Rattle.zopac.specs.declared.opac.OpacRecord.{OpacRecord}
 use Rattle.zknow_titles.specs.Entries.{EntryText, entry_with, opac_of, copies_of}
 use Rattle.zknow_titles.specs.Names.{label}
-use Rattle.zhtml.specs.declared.attributes.AttributeName.TheVariants.{Class}
-use Rattle.zhtml.specs.declared.elements.Element.TheVariants.{Table, Thead, Tbody, Tr, Td}
-use Rattle.zhtml.specs.Markup.{element}
+use Rattle.zknow_titles.specs.Wholes.{lines_with}
 use Rattle.zhtml.specs.Texts.{text}
-use Rattle.zknow_html.specs.Cells.{only, column, number_cell, text_cell, list_cell, mark}
+use Rattle.zknow_html.specs.Cells.{column, cell, text_cell, list_cell, mark, hidden, row, table}
 use Rattle.zknow_html.specs.Fields.{FieldTexts, fields_with, title_or}
 
 -- ---- one record
 
 -- the cell of a catalogue's name, with a mark behind it
 unfoldable pub name_cell : List ℕ → List ℕ → List ℕ
-name_cell name marked = element Td [] (text name ++ mark marked)
+name_cell name marked = cell (text name ++ mark marked)
+
+-- the cell of a title, with the lines of all fields behind it
+unfoldable pub title_cell : List ℕ → List (List ℕ) → List ℕ
+title_cell title lines = cell (text title ++ hidden (codes "Fields") lines)
 
 -- the cells of what is shown of a record
-unfoldable pub entry_cells : EntryText → FieldTexts → List (List ℕ) → List ℕ
-entry_cells e fields copies =
-    number_cell e.year ++ text_cell (title_or fields.title e.line) ++ text_cell fields.author
-    ++ number_cell fields.isbn ++ list_cell copies
+unfoldable pub entry_cells : EntryText → FieldTexts → List (List ℕ) → List (List ℕ) → List ℕ
+entry_cells e fields lines copies =
+    text_cell e.year ++ title_cell (title_or fields.title e.line) lines ++ text_cell fields.author
+    ++ text_cell fields.isbn ++ list_cell copies
 
--- those of a record, which is one with its copies or none
+-- those of a record, which is one with its copies or none; its lines are those of the view of whole records
 abbrev pub record_cells : Record → Option OpacRecord → List ℕ
-record_cells r o = entry_cells (entry_with r o) (fields_with r.body o) (copies_of o)
+record_cells r o = entry_cells (entry_with r o) (fields_with r.body o) (lines_with r o) (copies_of o)
 
 -- the row of a record: of a class, with a mark
 unfoldable pub record_row : List ℕ → List ℕ → List (List ℕ) → RowKey → Record → List ℕ
 record_row class marked shown k r =
-    element Tr (only Class class) (number_cell (signed_decimal k.position)
-    ++ name_cell (label shown k.target k.set) marked ++ record_cells r (opac_of r))
+    row class (text_cell (signed_decimal k.position) ++ name_cell (label shown k.target k.set) marked
+    ++ record_cells r (opac_of r))
 
 -- ---- the records at a position
 
@@ -67,11 +69,10 @@ field_columns =
     column (codes "Year") ++ column (codes "Title") ++ column (codes "Author") ++ column (codes "ISBN")
     ++ column (codes "Copies")
 
--- the headers of the columns
-unfoldable pub record_heads : List ℕ
-record_heads = element Thead [] (element Tr [] (place_columns ++ field_columns))
+-- the columns
+unfoldable pub record_columns : List ℕ
+record_columns = place_columns ++ field_columns
 
 -- the table of these rows
-unfoldable pub record_table : List (List ℕ) → List Fact → List RowKey → List ℕ
-record_table shown facts rows =
-    element Table [] (record_heads ++ element Tbody [] (flat_map (position_rows shown facts) rows))
+abbrev pub record_table : List (List ℕ) → List Fact → List RowKey → List ℕ
+record_table shown facts rows = table record_columns (flat_map (position_rows shown facts) rows)

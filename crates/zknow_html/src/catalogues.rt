@@ -1,13 +1,18 @@
 //! The table of catalogues: what each found, what is shown of it, and why anything is missing.
-ghost use Rattle.std.specs.Prelude.{◌≡◌, ◌++◌, ◌∷◌, [], map, IfOk, OnOk, string_bytes};
+ghost use Rattle.std.specs.Prelude.{◌≡◌, ◌-◌, ◌++◌, ◌∷◌, [], codes, length, map, IfOk, OnOk, string_bytes};
 ghost use Rattle.std.specs.List.{flat_map};
 ghost use Rattle.zhtml.specs.declared.attributes.AttributeName.TheVariants.{Value, Max};
 ghost use Rattle.zhtml.specs.declared.elements.Element.TheVariants.{Meter};
 ghost use Rattle.zhtml.specs.Markup.{start_tag, attribute_of};
 ghost use Rattle.zknow.specs.Known.{referenced_pairs};
-ghost use Rattle.zknow_html.specs.Catalogues.{found_text, meter, share, share_cell, reasons, known_row, set_row, stop_row, stop_rows, stops_from, catalogue_columns, catalogue_heads, catalogue_table};
+ghost use Rattle.zknow.specs.List.Listing.{positions_at};
+ghost use Rattle.zknow_html.specs.Catalogues.{found_text, missing, missing_text, meter, share, share_cell, reasons, number_cells, known_row};
+ghost use Rattle.zknow_html.specs.Catalogues.{set_row, empty_cells, stop_row, stop_rows, stops_from, count_columns, catalogue_columns, catalogue_table};
 
-use crate::cells::{put_bare, put_cell, put_column, put_list_cell, put_number, put_row_header};
+use crate::cells::{
+    put_body_start, put_cell, put_cell_start, put_column, put_list_cell, put_row_header,
+    put_row_start, put_table_end, put_table_start,
+};
 use std::alloc::{AllocError, Global};
 use zapdu::DiagRec;
 use zhtml::{Attribute, AttributeName, Element, put_end, put_start, put_text};
@@ -26,6 +31,38 @@ fn found_text(alloc: Global, counts: &[i64]) -> Result<String, AllocError>
     let numbers = show_numbers(alloc, counts)?;
     put_joined(" or ", &numbers, &mut shown)?;
     Ok(shown)
+}
+
+/// Counts the positions of a set at which something is known, without those at which a record is shown.
+fn count_others(knowledge: &Knowledge, key: &SetKey, shown: usize) -> Result<usize, AllocError>
+    ensures { IfOk result (λ count. count ≡ length (positions_at key.now.target key.now.set knowledge.now) - shown) }
+{
+    let positions = knowledge.positions(key.target, key.set)?;
+    Ok(positions.len().saturating_sub(shown))
+}
+
+/// Returns how many of the records that a catalogue found are neither shown nor refused; 0 if it found fewer.
+fn missing(shown: usize, refused: usize, count: i64) -> i128
+    ensures { result ≡ missing shown refused count }
+{
+    let known = shown as i128 + refused as i128;
+    let found = count as i128;
+    if known < found { found - known } else { 0 }
+}
+
+/// Returns that number, if one count is known.
+fn missing_text(
+    alloc: Global,
+    shown: usize,
+    refused: usize,
+    counts: &[i64],
+) -> Result<String, AllocError>
+    ensures { IfOk result (λ text. string_bytes text ≡ missing_text shown refused counts.now) }
+{
+    match counts {
+        [count] => missing(shown, refused, *count).to_string(alloc),
+        [] | [_, _, ..] => Ok(String::new(alloc)),
+    }
 }
 
 /// Appends the start tag of a bar: its value, and its greatest.
@@ -51,6 +88,16 @@ fn put_measure(
     put_start(alloc, Element::Meter, &attributes, out)
 }
 
+/// Returns `2 of 24`.
+fn share_text(alloc: Global, shown: &str, count: &str) -> Result<String, AllocError>
+    ensures { IfOk result (λ words. string_bytes words ≡ shown.now ++ codes " of " ++ count.now) }
+{
+    let mut words = String::from_str(alloc, shown)?;
+    words.push_str(" of ")?;
+    words.push_str(count)?;
+    Ok(words)
+}
+
 /// Appends a bar: how many of so many are shown.
 #[tactic(auto, unfolding(crate::specs::Catalogues::meter))]
 fn put_meter(alloc: Global, shown: usize, count: i64, out: &mut String) -> Result<(), AllocError>
@@ -59,14 +106,12 @@ fn put_meter(alloc: Global, shown: usize, count: i64, out: &mut String) -> Resul
     let value = shown.to_string(alloc)?;
     let greatest = count.to_string(alloc)?;
     put_measure(alloc, value.as_str(), greatest.as_str(), out)?;
-    let mut words = value;
-    words.push_str(" of ")?;
-    words.push_str(greatest.as_str())?;
+    let words = share_text(alloc, value.as_str(), greatest.as_str())?;
     put_text(alloc, words.as_bytes(), out)?;
     put_end(Element::Meter, out)
 }
 
-/// Appends that bar, if a number above 0 is known and no other.
+/// Appends that bar, if one count above 0 is known and no other.
 fn put_share(
     alloc: Global,
     shown: usize,
@@ -96,7 +141,7 @@ fn put_share_cell(
 ) -> Result<(), AllocError>
     ensures { OnOk result (string_bytes out.new ≡ string_bytes out.old ++ share_cell shown counts.now) }
 {
-    put_bare(alloc, Element::Td, out)?;
+    put_cell_start(alloc, out)?;
     put_share(alloc, shown, counts, out)?;
     put_end(Element::Td, out)
 }
@@ -117,6 +162,28 @@ fn find_reasons(
     Ok(why)
 }
 
+/// Appends the cells of numbers.
+#[tactic(auto, unfolding(crate::specs::Catalogues::number_cells))]
+fn put_numbers(
+    alloc: Global,
+    counts: &[i64],
+    shown: usize,
+    refused: usize,
+    out: &mut String,
+) -> Result<(), AllocError>
+    ensures { OnOk result (string_bytes out.new ≡ string_bytes out.old ++ number_cells counts.now shown refused) }
+{
+    let found = found_text(alloc, counts)?;
+    put_cell(alloc, found.as_str(), out)?;
+    let number = shown.to_string(alloc)?;
+    put_cell(alloc, number.as_str(), out)?;
+    let withheld = refused.to_string(alloc)?;
+    put_cell(alloc, withheld.as_str(), out)?;
+    let rest = missing_text(alloc, shown, refused, counts)?;
+    put_cell(alloc, rest.as_str(), out)?;
+    put_share_cell(alloc, shown, counts, out)
+}
+
 /// Appends the row of a set, by what is known of it.
 #[tactic(auto, unfolding(crate::specs::Catalogues::known_row))]
 fn put_known_row(
@@ -124,19 +191,16 @@ fn put_known_row(
     name: &str,
     counts: &[i64],
     shown: usize,
+    refused: usize,
     why: &[String],
     out: &mut String,
 ) -> Result<(), AllocError>
     ensures { OnOk result (string_bytes out.new
-        ≡ string_bytes out.old ++ known_row name.now counts.now shown (map string_bytes why.now)) }
+        ≡ string_bytes out.old ++ known_row name.now counts.now shown refused (map string_bytes why.now)) }
 {
-    put_bare(alloc, Element::Tr, out)?;
+    put_row_start(alloc, "catalogue", out)?;
     put_row_header(alloc, name, out)?;
-    let found = found_text(alloc, counts)?;
-    put_number(alloc, found.as_str(), out)?;
-    let number = shown.to_string(alloc)?;
-    put_number(alloc, number.as_str(), out)?;
-    put_share_cell(alloc, shown, counts, out)?;
+    put_numbers(alloc, counts, shown, refused, out)?;
     put_list_cell(alloc, why, out)?;
     put_end(Element::Tr, out)
 }
@@ -153,18 +217,13 @@ fn put_set_row(
         ≡ string_bytes out.old ++ set_row (map string_bytes shown.now) knowledge.now key.now) }
 {
     let name = label_of(alloc, shown, key.target, key.set)?;
+    let counts = counts_of(knowledge, key);
     let count = count_shown(knowledge, key)?;
+    let refused = count_others(knowledge, key, count)?;
     let diags = knowledge.diags(key.target, key.set)?;
     let failed = knowledge.is_failed(key.target, key.set);
     let why = find_reasons(alloc, key.set, failed, &diags)?;
-    put_known_row(
-        alloc,
-        name.as_str(),
-        counts_of(knowledge, key),
-        count,
-        &why,
-        out,
-    )
+    put_known_row(alloc, name.as_str(), counts, count, refused, &why, out)
 }
 
 /// Appends the row of each set.
@@ -184,6 +243,18 @@ fn put_set_rows(
     Ok(())
 }
 
+/// Appends five empty cells, in place of numbers.
+#[tactic(auto, unfolding(crate::specs::Catalogues::empty_cells))]
+fn put_empty_cells(alloc: Global, out: &mut String) -> Result<(), AllocError>
+    ensures { OnOk result (string_bytes out.new ≡ string_bytes out.old ++ empty_cells) }
+{
+    put_cell(alloc, "", out)?;
+    put_cell(alloc, "", out)?;
+    put_cell(alloc, "", out)?;
+    put_cell(alloc, "", out)?;
+    put_cell(alloc, "", out)
+}
+
 /// Appends the row of a catalogue whose connection stopped.
 #[tactic(auto, unfolding(crate::specs::Catalogues::stop_row))]
 fn put_stop_row(
@@ -196,12 +267,10 @@ fn put_stop_row(
     ensures { OnOk result (string_bytes out.new
         ≡ string_bytes out.old ++ stop_row (map string_bytes shown.now) target stop.now) }
 {
-    put_bare(alloc, Element::Tr, out)?;
+    put_row_start(alloc, "stopped", out)?;
     let name = name_of(alloc, shown, target)?;
     put_row_header(alloc, name.as_str(), out)?;
-    put_cell(alloc, "", out)?;
-    put_cell(alloc, "", out)?;
-    put_cell(alloc, "", out)?;
+    put_empty_cells(alloc, out)?;
     let words = show_stop(alloc, stop.detail)?;
     put_cell(alloc, words.as_str(), out)?;
     put_end(Element::Tr, out)
@@ -240,32 +309,30 @@ fn put_stops(
     Ok(())
 }
 
+/// Appends the header of the columns of a name and of numbers.
+#[tactic(auto, unfolding(crate::specs::Catalogues::count_columns))]
+fn put_count_columns(alloc: Global, out: &mut String) -> Result<(), AllocError>
+    ensures { OnOk result (string_bytes out.new ≡ string_bytes out.old ++ count_columns) }
+{
+    put_column(alloc, "Catalogue", out)?;
+    put_column(alloc, "Found", out)?;
+    put_column(alloc, "Shown", out)?;
+    put_column(alloc, "Refused", out)?;
+    put_column(alloc, "Missing", out)
+}
+
 /// Appends the header of each column.
 #[tactic(auto, unfolding(crate::specs::Catalogues::catalogue_columns))]
 fn put_columns(alloc: Global, out: &mut String) -> Result<(), AllocError>
     ensures { OnOk result (string_bytes out.new ≡ string_bytes out.old ++ catalogue_columns) }
 {
-    put_column(alloc, "Catalogue", out)?;
-    put_column(alloc, "Found", out)?;
-    put_column(alloc, "Shown", out)?;
+    put_count_columns(alloc, out)?;
     put_column(alloc, "Share", out)?;
-    put_column(alloc, "Missing", out)
-}
-
-/// Appends the headers of the columns.
-#[tactic(auto, unfolding(crate::specs::Catalogues::catalogue_heads))]
-fn put_heads(alloc: Global, out: &mut String) -> Result<(), AllocError>
-    ensures { OnOk result (string_bytes out.new ≡ string_bytes out.old ++ catalogue_heads) }
-{
-    put_bare(alloc, Element::Thead, out)?;
-    put_bare(alloc, Element::Tr, out)?;
-    put_columns(alloc, out)?;
-    put_end(Element::Tr, out)?;
-    put_end(Element::Thead, out)
+    put_column(alloc, "Why", out)
 }
 
 /// Appends the table of these sets and of all stops.
-#[tactic(auto, unfolding(crate::specs::Catalogues::catalogue_table))]
+#[tactic(auto, unfolding(crate::specs::Cells::table))]
 pub(crate) fn put_catalogues(
     alloc: Global,
     shown: &[String],
@@ -277,11 +344,10 @@ pub(crate) fn put_catalogues(
     ensures { OnOk result (string_bytes out.new ≡ string_bytes out.old
         ++ catalogue_table (map string_bytes shown.now) stops.now knowledge.now sets.now) }
 {
-    put_bare(alloc, Element::Table, out)?;
-    put_heads(alloc, out)?;
-    put_bare(alloc, Element::Tbody, out)?;
+    put_table_start(alloc, out)?;
+    put_columns(alloc, out)?;
+    put_body_start(alloc, out)?;
     put_set_rows(alloc, shown, knowledge, sets, out)?;
     put_stops(alloc, shown, stops, out)?;
-    put_end(Element::Tbody, out)?;
-    put_end(Element::Table, out)
+    put_table_end(out)
 }

@@ -1,9 +1,10 @@
-//! Cells of tables, and other elements that have a text alone.
+//! Cells of tables, and other elements that have a text alone. Each part of a table says what it is by its role too.
 ghost use Rattle.std.specs.Prelude.{◌≡◌, ◌∷◌, ◌++◌, [], codes, map, OnOk, string_bytes};
 ghost use Rattle.std.specs.List.{flat_map};
-ghost use Rattle.zhtml.specs.declared.elements.Element.TheVariants.{Li};
+ghost use Rattle.zhtml.specs.declared.attributes.AttributeName.TheVariants.{Role};
+ghost use Rattle.zhtml.specs.declared.elements.Element.TheVariants.{Tr, Th, Td, Li};
 ghost use Rattle.zhtml.specs.Markup.{start_tag, void_element, attribute_of};
-ghost use Rattle.zknow_html.specs.Cells.{only, said, said_with, column, row_header, number_cell, text_cell, listed, list_cell, mark};
+ghost use Rattle.zknow_html.specs.Cells.{only, said, said_with, header_of, column, row_header, text_cell, listed, list_cell, mark, hidden, row_of, table_start, body_start, table_end};
 
 use std::alloc::{AllocError, Global};
 use zhtml::{
@@ -93,53 +94,71 @@ pub(crate) fn put_said_with(
     put_end(element, out)
 }
 
+/// Appends the start tag of a part of a table, with its role.
+fn put_part(alloc: Global, element: Element, role: &str, out: &mut String) -> Result<(), AllocError>
+    ensures { OnOk result (string_bytes out.new ≡ string_bytes out.old ++ start_tag element (only Role role.now)) }
+{
+    put_only(alloc, element, AttributeName::Role, role, out)
+}
+
+/// Appends the start tag of a header, of the cells of its column or of its row.
+fn put_header_start(
+    alloc: Global,
+    scope: &str,
+    role: &str,
+    out: &mut String,
+) -> Result<(), AllocError>
+    ensures { OnOk result (string_bytes out.new
+        ≡ string_bytes out.old ++ start_tag Th (header_of scope.now role.now)) }
+{
+    let attributes = [
+        Attribute {
+            name: AttributeName::Scope,
+            value: scope.as_bytes(),
+        },
+        Attribute {
+            name: AttributeName::Role,
+            value: role.as_bytes(),
+        },
+    ];
+    put_start(alloc, Element::Th, &attributes, out)
+}
+
 /// Appends the header of a column.
+#[tactic(auto, unfolding(crate::specs::Cells::column))]
 pub(crate) fn put_column(alloc: Global, title: &str, out: &mut String) -> Result<(), AllocError>
     ensures { OnOk result (string_bytes out.new ≡ string_bytes out.old ++ column title.now) }
 {
-    put_said_with(
-        alloc,
-        Element::Th,
-        AttributeName::Scope,
-        "col",
-        title.as_bytes(),
-        out,
-    )
+    put_header_start(alloc, "col", "columnheader", out)?;
+    put_text(alloc, title.as_bytes(), out)?;
+    put_end(Element::Th, out)
 }
 
 /// Appends the header of a row.
+#[tactic(auto, unfolding(crate::specs::Cells::row_header))]
 pub(crate) fn put_row_header(alloc: Global, title: &str, out: &mut String) -> Result<(), AllocError>
     ensures { OnOk result (string_bytes out.new ≡ string_bytes out.old ++ row_header title.now) }
 {
-    put_said_with(
-        alloc,
-        Element::Th,
-        AttributeName::Scope,
-        "row",
-        title.as_bytes(),
-        out,
-    )
+    put_header_start(alloc, "row", "rowheader", out)?;
+    put_text(alloc, title.as_bytes(), out)?;
+    put_end(Element::Th, out)
 }
 
-/// Appends a cell with a number.
-pub(crate) fn put_number(alloc: Global, number: &str, out: &mut String) -> Result<(), AllocError>
-    ensures { OnOk result (string_bytes out.new ≡ string_bytes out.old ++ number_cell number.now) }
+/// Appends the start tag of a cell.
+pub(crate) fn put_cell_start(alloc: Global, out: &mut String) -> Result<(), AllocError>
+    ensures { OnOk result (string_bytes out.new ≡ string_bytes out.old ++ start_tag Td (only Role (codes "cell"))) }
 {
-    put_said_with(
-        alloc,
-        Element::Td,
-        AttributeName::Class,
-        "number",
-        number.as_bytes(),
-        out,
-    )
+    put_part(alloc, Element::Td, "cell", out)
 }
 
 /// Appends a cell with a text.
+#[tactic(auto, unfolding(crate::specs::Cells::text_cell))]
 pub(crate) fn put_cell(alloc: Global, octets: &str, out: &mut String) -> Result<(), AllocError>
     ensures { OnOk result (string_bytes out.new ≡ string_bytes out.old ++ text_cell octets.now) }
 {
-    put_said(alloc, Element::Td, octets.as_bytes(), out)
+    put_cell_start(alloc, out)?;
+    put_text(alloc, octets.as_bytes(), out)?;
+    put_end(Element::Td, out)
 }
 
 /// Appends each text as an item of a list.
@@ -176,7 +195,7 @@ pub(crate) fn put_list_cell(
     ensures { OnOk result (string_bytes out.new
         ≡ string_bytes out.old ++ list_cell (map string_bytes texts.now)) }
 {
-    put_bare(alloc, Element::Td, out)?;
+    put_cell_start(alloc, out)?;
     put_listed(alloc, texts, out)?;
     put_end(Element::Td, out)
 }
@@ -189,4 +208,71 @@ pub(crate) fn put_mark(alloc: Global, text: &str, out: &mut String) -> Result<()
         return Ok(());
     }
     put_said(alloc, Element::Strong, text.as_bytes(), out)
+}
+
+/// Appends texts that are seen if a reader opens them, nothing if there is none.
+pub(crate) fn put_hidden(
+    alloc: Global,
+    title: &str,
+    texts: &[String],
+    out: &mut String,
+) -> Result<(), AllocError>
+    ensures { OnOk result (string_bytes out.new
+        ≡ string_bytes out.old ++ hidden title.now (map string_bytes texts.now)) }
+{
+    if texts.is_empty() {
+        return Ok(());
+    }
+    put_bare(alloc, Element::Details, out)?;
+    put_said(alloc, Element::Summary, title.as_bytes(), out)?;
+    put_bare(alloc, Element::Ul, out)?;
+    put_items(alloc, texts, out)?;
+    put_end(Element::Ul, out)?;
+    put_end(Element::Details, out)
+}
+
+/// Appends the start tag of a row of a class.
+pub(crate) fn put_row_start(alloc: Global, class: &str, out: &mut String) -> Result<(), AllocError>
+    ensures { OnOk result (string_bytes out.new ≡ string_bytes out.old ++ start_tag Tr (row_of class.now)) }
+{
+    let attributes = [
+        Attribute {
+            name: AttributeName::Class,
+            value: class.as_bytes(),
+        },
+        Attribute {
+            name: AttributeName::Role,
+            value: b"row",
+        },
+    ];
+    put_start(alloc, Element::Tr, &attributes, out)
+}
+
+/// Appends what a table begins with: before the headers of its columns.
+#[tactic(auto, unfolding(crate::specs::Cells::table_start))]
+pub(crate) fn put_table_start(alloc: Global, out: &mut String) -> Result<(), AllocError>
+    ensures { OnOk result (string_bytes out.new ≡ string_bytes out.old ++ table_start) }
+{
+    put_part(alloc, Element::Table, "table", out)?;
+    put_part(alloc, Element::Thead, "rowgroup", out)?;
+    put_part(alloc, Element::Tr, "row", out)
+}
+
+/// Appends what stands between these headers and the rows of a table.
+#[tactic(auto, unfolding(crate::specs::Cells::body_start))]
+pub(crate) fn put_body_start(alloc: Global, out: &mut String) -> Result<(), AllocError>
+    ensures { OnOk result (string_bytes out.new ≡ string_bytes out.old ++ body_start) }
+{
+    put_end(Element::Tr, out)?;
+    put_end(Element::Thead, out)?;
+    put_part(alloc, Element::Tbody, "rowgroup", out)
+}
+
+/// Appends what a table ends with.
+#[tactic(auto, unfolding(crate::specs::Cells::table_end))]
+pub(crate) fn put_table_end(out: &mut String) -> Result<(), AllocError>
+    ensures { OnOk result (string_bytes out.new ≡ string_bytes out.old ++ table_end) }
+{
+    put_end(Element::Tbody, out)?;
+    put_end(Element::Table, out)
 }

@@ -1,7 +1,14 @@
 //! Laws of the definitions, each the contract of a function that does nothing.
-ghost use Rattle.zknow_html.specs.Laws.{PageLaw};
+ghost use Rattle.zknow_html.specs.Laws.{PageLaw, RowsLaw};
 
 /// The page is a document of the small HTML of `zhtml`, whatever the heading, the names, the stops and the facts are.
 pub fn page_law()
     ensures { PageLaw }
+{}
+
+/// Read back, the page has the rows that are due, in order and each once: a row for each set that has a line in the
+/// view of `zknow_titles`, one for each catalogue that stopped, and one for each record of the rows of that view. Each
+/// cell shows what it is due.
+pub fn rows_law()
+    ensures { RowsLaw }
 {}

@@ -3,8 +3,9 @@ ghost use Rattle.std.specs.Prelude.{◌≡◌, ◌++◌, ◌∷◌, [], codes, m
 ghost use Rattle.zhtml.specs.declared.elements.Element.TheVariants.{Div};
 ghost use Rattle.zhtml.specs.Markup.{start_tag};
 ghost use Rattle.zknow_titles.specs.Names.{shown_names};
-ghost use Rattle.zknow_html.specs.Laws.{IsDocument};
+ghost use Rattle.zknow_html.specs.Laws.{IsDocument, HasRowTexts};
 ghost use Rattle.zknow_html.specs.Page.{encoding, viewport, policy_element, metadata, head, region, section_start, section_end, catalogues_part, records_part, tables, body, page};
+ghost use Rattle.zknow_html.specs.Rows.{row_texts};
 
 use crate::catalogues::put_catalogues;
 use crate::cells::{put_bare, put_only, put_pair, put_said, put_said_with};
@@ -242,19 +243,22 @@ fn view(
 }
 
 /// Appends the page. Under `heading` it has a table of the catalogues: a row for each target's set of which a count, a
-/// failure or a diagnostic is known, by target and set, with how many records were found and how many are shown, a bar
-/// of that share, and why any are missing; then a row for each target whose connection stopped. A table of the records
-/// follows: a row for each record that is known, by position, target and set. Each of several different records at a
-/// position has a mark.
+/// failure or a diagnostic is known, by target and set, with how many records were found, are shown, were refused and
+/// are missing, a bar of the share that is shown, and why any are missing; then a row for each target whose connection
+/// stopped. A table of the records follows: a row for each record that is known, by position, target and set. Behind
+/// its title are the lines that `print_fields` of `zknow_titles` has of it; a reader opens them. Each of several
+/// different records at a position has a mark.
 ///
 /// Entry `c` of `stops` says why the connection of target `c` stopped; without an entry it did not. A target has its
 /// name in `names`, else `#` and its number.
+///
+/// Read back, the page has each of these rows once, in this order.
 ///
 /// Whatever the heading, the names, the stops, the diagnostics and the records are, the page is a document of the small
 /// HTML of `zhtml`: their texts are no markup in it. It has no script, and loads nothing.
 ///
 /// Returns `AllocError` if no memory is found; nothing is appended.
-#[tactic(auto, using(crate::proofs::PageTheory::page_is_document))]
+#[tactic(auto, using(crate::proofs::PageTheory::page_is_document, crate::proofs::PageTheory::page_has_rows))]
 pub fn print_html(
     alloc: Global,
     heading: &[u8],
@@ -267,6 +271,8 @@ pub fn print_html(
         ≡ out.old.items ++ page heading.now names.now stops.now knowledge.now) }
     ensures err { OnErr result (out.new.items ≡ out.old.items) }
     ensures document { IsDocument (page heading.now names.now stops.now knowledge.now) }
+    ensures rows { HasRowTexts (page heading.now names.now stops.now knowledge.now)
+        (row_texts (shown_names names.now) stops.now knowledge.now) }
 {
     let text = view(alloc, heading, names, stops, knowledge)?;
     out.extend_from_slice(text.as_bytes())

@@ -1,18 +1,21 @@
-//! The table of records: position, catalogue, year, title, author, ISBN, copies.
+//! The table of records: position, catalogue, year, title with all fields behind it, author, ISBN, copies.
 ghost use Rattle.std.specs.Prelude.{◌≡◌, ◌++◌, codes, map, IfOk, OnOk, string_bytes};
 ghost use Rattle.std.specs.List.{flat_map};
 ghost use Rattle.zopac.specs.Copies.{holding_line};
 ghost use Rattle.zknow_titles.specs.Entries.{texts, opac_of, copies_of};
 ghost use Rattle.zknow_html.specs.Fields.{fields_of};
-ghost use Rattle.zknow_html.specs.Records.{name_cell, entry_cells, record_cells, record_row, one_of, records_rows, position_rows, place_columns, field_columns, record_heads, record_table};
+ghost use Rattle.zknow_html.specs.Records.{name_cell, title_cell, entry_cells, record_cells, record_row, one_of, records_rows, position_rows, place_columns, field_columns, record_columns, record_table};
 
-use crate::cells::{put_bare, put_cell, put_column, put_list_cell, put_mark, put_number, put_only};
+use crate::cells::{
+    put_body_start, put_cell, put_cell_start, put_column, put_hidden, put_list_cell, put_mark,
+    put_row_start, put_table_end, put_table_start,
+};
 use crate::fields::{Fields, fields_with, title_or};
 use std::alloc::{AllocError, Global};
 use zapdu::Record;
-use zhtml::{AttributeName, Element, put_end, put_text};
+use zhtml::{Element, put_end, put_text};
 use zknow::{Knowledge, RowKey};
-use zknow_titles::{Entry, entry_with, label_of, opac_of, records_of};
+use zknow_titles::{Entry, entry_with, label_of, lines_with, opac_of, records_of};
 use zopac::{Holding, OpacRecord, put_holding};
 
 /// Appends the cell of a catalogue's name, with a mark behind it.
@@ -20,9 +23,26 @@ use zopac::{Holding, OpacRecord, put_holding};
 fn put_name(alloc: Global, name: &str, marked: &str, out: &mut String) -> Result<(), AllocError>
     ensures { OnOk result (string_bytes out.new ≡ string_bytes out.old ++ name_cell name.now marked.now) }
 {
-    put_bare(alloc, Element::Td, out)?;
+    put_cell_start(alloc, out)?;
     put_text(alloc, name.as_bytes(), out)?;
     put_mark(alloc, marked, out)?;
+    put_end(Element::Td, out)
+}
+
+/// Appends the cell of a title, with the lines of all fields behind it.
+#[tactic(auto, unfolding(crate::specs::Records::title_cell))]
+fn put_title(
+    alloc: Global,
+    title: &str,
+    lines: &[String],
+    out: &mut String,
+) -> Result<(), AllocError>
+    ensures { OnOk result (string_bytes out.new
+        ≡ string_bytes out.old ++ title_cell title.now (map string_bytes lines.now)) }
+{
+    put_cell_start(alloc, out)?;
+    put_text(alloc, title.as_bytes(), out)?;
+    put_hidden(alloc, "Fields", lines, out)?;
     put_end(Element::Td, out)
 }
 
@@ -58,22 +78,20 @@ fn put_entry(
     alloc: Global,
     entry: &Entry,
     fields: &Fields,
+    lines: &[String],
     copies: &[String],
     out: &mut String,
 ) -> Result<(), AllocError>
     ensures { OnOk result (string_bytes out.new ≡ string_bytes out.old
         ++ entry_cells (texts (string_bytes entry.now.year) (string_bytes entry.now.line))
         (fields_of (string_bytes fields.now.title) (string_bytes fields.now.author) (string_bytes fields.now.isbn))
-        (map string_bytes copies.now)) }
+        (map string_bytes lines.now) (map string_bytes copies.now)) }
 {
-    put_number(alloc, entry.year.as_str(), out)?;
-    put_cell(
-        alloc,
-        title_or(fields.title.as_str(), entry.line.as_str()),
-        out,
-    )?;
+    put_cell(alloc, entry.year.as_str(), out)?;
+    let title = title_or(fields.title.as_str(), entry.line.as_str());
+    put_title(alloc, title, lines, out)?;
     put_cell(alloc, fields.author.as_str(), out)?;
-    put_number(alloc, fields.isbn.as_str(), out)?;
+    put_cell(alloc, fields.isbn.as_str(), out)?;
     put_list_cell(alloc, copies, out)
 }
 
@@ -85,8 +103,9 @@ fn put_record_cells(alloc: Global, record: &Record, out: &mut String) -> Result<
     let opac = opac_of(alloc, record)?;
     let entry = entry_with(alloc, record, &opac)?;
     let fields = fields_with(alloc, &record.body, &opac)?;
+    let lines = lines_with(alloc, record, &opac)?;
     let copies = show_copies(alloc, &opac)?;
-    put_entry(alloc, &entry, &fields, &copies, out)
+    put_entry(alloc, &entry, &fields, &lines, &copies, out)
 }
 
 /// Appends the row of a record: of a class, with a mark.
@@ -103,9 +122,9 @@ fn put_record(
     ensures { OnOk result (string_bytes out.new ≡ string_bytes out.old
         ++ record_row class.now marked.now (map string_bytes shown.now) key.now «record».now) }
 {
-    put_only(alloc, Element::Tr, AttributeName::Class, class, out)?;
+    put_row_start(alloc, class, out)?;
     let position = key.position.to_string(alloc)?;
-    put_number(alloc, position.as_str(), out)?;
+    put_cell(alloc, position.as_str(), out)?;
     let name = label_of(alloc, shown, key.target, key.set)?;
     put_name(alloc, name.as_str(), marked, out)?;
     put_record_cells(alloc, record, out)?;
@@ -216,20 +235,16 @@ fn put_field_columns(alloc: Global, out: &mut String) -> Result<(), AllocError>
 }
 
 /// Appends the headers of the columns.
-#[tactic(auto, unfolding(crate::specs::Records::record_heads))]
-fn put_heads(alloc: Global, out: &mut String) -> Result<(), AllocError>
-    ensures { OnOk result (string_bytes out.new ≡ string_bytes out.old ++ record_heads) }
+#[tactic(auto, unfolding(crate::specs::Records::record_columns))]
+fn put_columns(alloc: Global, out: &mut String) -> Result<(), AllocError>
+    ensures { OnOk result (string_bytes out.new ≡ string_bytes out.old ++ record_columns) }
 {
-    put_bare(alloc, Element::Thead, out)?;
-    put_bare(alloc, Element::Tr, out)?;
     put_place_columns(alloc, out)?;
-    put_field_columns(alloc, out)?;
-    put_end(Element::Tr, out)?;
-    put_end(Element::Thead, out)
+    put_field_columns(alloc, out)
 }
 
 /// Appends the table of these rows.
-#[tactic(auto, unfolding(crate::specs::Records::record_table))]
+#[tactic(auto, unfolding(crate::specs::Cells::table))]
 pub(crate) fn put_table(
     alloc: Global,
     shown: &[String],
@@ -240,10 +255,9 @@ pub(crate) fn put_table(
     ensures { OnOk result (string_bytes out.new
         ≡ string_bytes out.old ++ record_table (map string_bytes shown.now) knowledge.now rows.now) }
 {
-    put_bare(alloc, Element::Table, out)?;
-    put_heads(alloc, out)?;
-    put_bare(alloc, Element::Tbody, out)?;
+    put_table_start(alloc, out)?;
+    put_columns(alloc, out)?;
+    put_body_start(alloc, out)?;
     put_positions(alloc, shown, knowledge, rows, out)?;
-    put_end(Element::Tbody, out)?;
-    put_end(Element::Table, out)
+    put_table_end(out)
 }

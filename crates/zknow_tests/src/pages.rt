@@ -28,35 +28,53 @@ const EXAMPLE: &[u8] =
 // What is wanted behind the style sheet.
 const WANTED: &str = "\
     </head><body><h1>dune &amp; &lt;others&gt;</h1><main><section><h2 id=\"catalogues\">Catalogues</h2>\
-    <div class=\"region\" role=\"region\" aria-labelledby=\"catalogues\" tabindex=\"0\"><table><thead><tr>\
-    <th scope=\"col\">Catalogue</th><th scope=\"col\">Found</th><th scope=\"col\">Shown</th>\
-    <th scope=\"col\">Share</th><th scope=\"col\">Missing</th></tr></thead><tbody>\
-    <tr><th scope=\"row\">city library</th><td class=\"number\">24</td><td class=\"number\">2</td><td>\
-    <meter value=\"2\" max=\"24\">2 of 24</meter></td><td></td></tr>\
-    <tr><th scope=\"row\">county</th><td class=\"number\"></td><td class=\"number\">0</td><td></td><td><ul>\
-    <li>search refused: 109 Database unavailable (nowhere)</li></ul></td></tr>\
-    <tr><th scope=\"row\">abbey</th><td class=\"number\"></td><td class=\"number\">0</td><td></td><td><ul>\
-    <li>association refused</li></ul></td></tr>\
-    <tr><th scope=\"row\">old library</th><td></td><td></td><td></td><td>not reached (refused)</td></tr>\
+    <div class=\"region\" role=\"region\" aria-labelledby=\"catalogues\" tabindex=\"0\"><table role=\"table\">\
+    <thead role=\"rowgroup\"><tr role=\"row\"><th scope=\"col\" role=\"columnheader\">Catalogue</th>\
+    <th scope=\"col\" role=\"columnheader\">Found</th><th scope=\"col\" role=\"columnheader\">Shown</th>\
+    <th scope=\"col\" role=\"columnheader\">Refused</th><th scope=\"col\" role=\"columnheader\">Missing</th>\
+    <th scope=\"col\" role=\"columnheader\">Share</th><th scope=\"col\" role=\"columnheader\">Why</th>\
+    </tr></thead><tbody role=\"rowgroup\">\
+    <tr class=\"catalogue\" role=\"row\"><th scope=\"row\" role=\"rowheader\">city library</th>\
+    <td role=\"cell\">24</td><td role=\"cell\">2</td><td role=\"cell\">1</td><td role=\"cell\">21</td>\
+    <td role=\"cell\"><meter value=\"2\" max=\"24\">2 of 24</meter></td><td role=\"cell\"></td></tr>\
+    <tr class=\"catalogue\" role=\"row\"><th scope=\"row\" role=\"rowheader\">county</th><td role=\"cell\"></td>\
+    <td role=\"cell\">0</td><td role=\"cell\">0</td><td role=\"cell\"></td><td role=\"cell\"></td>\
+    <td role=\"cell\"><ul><li>search refused: 109 Database unavailable (nowhere)</li></ul></td></tr>\
+    <tr class=\"catalogue\" role=\"row\"><th scope=\"row\" role=\"rowheader\">abbey</th><td role=\"cell\"></td>\
+    <td role=\"cell\">0</td><td role=\"cell\">0</td><td role=\"cell\"></td><td role=\"cell\"></td>\
+    <td role=\"cell\"><ul><li>association refused</li></ul></td></tr>\
+    <tr class=\"stopped\" role=\"row\"><th scope=\"row\" role=\"rowheader\">old library</th>\
+    <td role=\"cell\"></td><td role=\"cell\"></td><td role=\"cell\"></td><td role=\"cell\"></td>\
+    <td role=\"cell\"></td><td role=\"cell\">not reached (refused)</td></tr>\
     </tbody></table></div></section><section><h2 id=\"records\">Records</h2>\
-    <div class=\"region\" role=\"region\" aria-labelledby=\"records\" tabindex=\"0\"><table><thead><tr>\
-    <th scope=\"col\">Position</th><th scope=\"col\">Catalogue</th><th scope=\"col\">Year</th>\
-    <th scope=\"col\">Title</th><th scope=\"col\">Author</th><th scope=\"col\">ISBN</th>\
-    <th scope=\"col\">Copies</th></tr></thead><tbody>\
-    <tr class=\"record\"><td class=\"number\">1</td><td>city library</td><td class=\"number\">1991</td>\
-    <td>How to program a computer</td><td>Jack Collins.</td><td class=\"number\">0839108826</td><td></td>\
-    </tr>\
-    <tr class=\"record\"><td class=\"number\">1</td><td>old library</td><td class=\"number\">1976</td>\
-    <td>Children of Dune</td><td>Frank Herbert</td><td class=\"number\"></td><td></td></tr>\
-    <tr class=\"differs\"><td class=\"number\">2</td><td>city library<strong>one of 2 different records\
-    </strong></td><td class=\"number\">1965</td><td>Dune messiah</td><td>Frank Herbert</td>\
-    <td class=\"number\"></td><td></td></tr>\
-    <tr class=\"differs\"><td class=\"number\">2</td><td>city library<strong>one of 2 different records\
-    </strong></td><td class=\"number\">1969</td><td>Dune messiah</td><td>Frank Herbert</td>\
-    <td class=\"number\"></td><td></td></tr>\
-    <tr class=\"record\"><td class=\"number\">3</td><td>city library</td><td class=\"number\"></td>\
-    <td>not shown: 238 Record not available in requested syntax</td><td></td><td class=\"number\"></td>\
-    <td></td></tr>\
+    <div class=\"region\" role=\"region\" aria-labelledby=\"records\" tabindex=\"0\"><table role=\"table\">\
+    <thead role=\"rowgroup\"><tr role=\"row\"><th scope=\"col\" role=\"columnheader\">Position</th>\
+    <th scope=\"col\" role=\"columnheader\">Catalogue</th><th scope=\"col\" role=\"columnheader\">Year</th>\
+    <th scope=\"col\" role=\"columnheader\">Title</th><th scope=\"col\" role=\"columnheader\">Author</th>\
+    <th scope=\"col\" role=\"columnheader\">ISBN</th><th scope=\"col\" role=\"columnheader\">Copies</th>\
+    </tr></thead><tbody role=\"rowgroup\">\
+    <tr class=\"record\" role=\"row\"><td role=\"cell\">1</td><td role=\"cell\">city library</td>\
+    <td role=\"cell\">1991</td><td role=\"cell\">How to program a computer<details><summary>Fields</summary><ul>\
+    <li>00133nam  22000611a 4500</li><li>020    $a 0839108826</li>\
+    <li>245 10 $a How to program a computer / $c Jack Collins.</li><li>260    $c 1991</li></ul></details></td>\
+    <td role=\"cell\">Jack Collins.</td><td role=\"cell\">0839108826</td><td role=\"cell\"></td></tr>\
+    <tr class=\"record\" role=\"row\"><td role=\"cell\">1</td><td role=\"cell\">old library</td>\
+    <td role=\"cell\">1976</td><td role=\"cell\">Children of Dune<details><summary>Fields</summary><ul>\
+    <li>00097nam  22000491a 4500</li><li>245 10 $a Children of Dune / $c Frank Herbert</li><li>260    $c 1976</li>\
+    </ul></details></td><td role=\"cell\">Frank Herbert</td><td role=\"cell\"></td><td role=\"cell\"></td></tr>\
+    <tr class=\"differs\" role=\"row\"><td role=\"cell\">2</td>\
+    <td role=\"cell\">city library<strong>one of 2 different records</strong></td><td role=\"cell\">1965</td>\
+    <td role=\"cell\">Dune messiah<details><summary>Fields</summary><ul><li>00093nam  22000491a 4500</li>\
+    <li>245 10 $a Dune messiah / $c Frank Herbert</li><li>260    $c 1965</li></ul></details></td>\
+    <td role=\"cell\">Frank Herbert</td><td role=\"cell\"></td><td role=\"cell\"></td></tr>\
+    <tr class=\"differs\" role=\"row\"><td role=\"cell\">2</td>\
+    <td role=\"cell\">city library<strong>one of 2 different records</strong></td><td role=\"cell\">1969</td>\
+    <td role=\"cell\">Dune messiah<details><summary>Fields</summary><ul><li>00093nam  22000491a 4500</li>\
+    <li>245 10 $a Dune messiah / $c Frank Herbert</li><li>260    $c 1969</li></ul></details></td>\
+    <td role=\"cell\">Frank Herbert</td><td role=\"cell\"></td><td role=\"cell\"></td></tr>\
+    <tr class=\"record\" role=\"row\"><td role=\"cell\">3</td><td role=\"cell\">city library</td>\
+    <td role=\"cell\"></td><td role=\"cell\">not shown: 238 Record not available in requested syntax</td>\
+    <td role=\"cell\"></td><td role=\"cell\"></td><td role=\"cell\"></td></tr>\
     </tbody></table></div></section></main></body></html>";
 
 // What a page of this file has before its style sheet, the style sheet, and what it has behind that.

@@ -25,3 +25,4 @@ pub use entries::{Entry, entry_with, opac_of};
 pub use heads::show_stop;
 pub use names::{label_of, name_of, show_names};
 pub use titles::{print_fields, print_titles};
+pub use wholes::lines_with;

@@ -117,8 +117,9 @@ fn bibliographic_lines(alloc: Global, found: &Option<External>) -> Result<Vec<St
     }
 }
 
-/// Returns the lines of a record; of a record with its copies those of the bibliographic record.
-fn lines_with(
+/// Returns the lines of a record, as `print_fields` shows them below its title; of a record with its copies those of
+/// the bibliographic record. `opac` is what `opac_of` returns of the record. It fails only if no memory is found.
+pub fn lines_with(
     alloc: Global,
     record: &Record,
     opac: &Option<OpacRecord>,
