@@ -30,7 +30,8 @@ _zmeta_may() {
         --only) excluded='' ;;
         --title | --author | --subject | --isbn | --any) excluded=--query ;;
         --query) excluded="--query $_zmeta_terms" ;;
-        --titles | --fields | --json | --hex | --html) excluded=$_zmeta_views ;;
+        --titles | --fields | --json | --hex | --html) excluded="$_zmeta_views --quiet" ;;
+        --quiet) excluded="$_zmeta_views --quiet" ;;
         --ipv4 | --ipv6) excluded="$_zmeta_families -4 -6" ;;
         *) excluded=$1 ;;
     esac
@@ -46,7 +47,7 @@ _zmeta_options() {
     case $1 in
         ask) options="--at-once $_zmeta_limits $_zmeta_families --only $_zmeta_search $_zmeta_views --heading --save --explain" ;;
         run | loop) options="$_zmeta_search $_zmeta_views --heading --save --explain" ;;
-        join) options="$_zmeta_views --heading --explain" ;;
+        join) options="$_zmeta_views --heading --save --quiet --explain" ;;
         records) options='--only --syntax --conflicts --explain' ;;
         serve | show | pqf) options=--explain ;;
         *) left= ;;
@@ -85,7 +86,7 @@ _zmeta_any() {
         -*) return ;;
         ask) valued=" --only $_zmeta_limits $_zmeta_search --heading --save " ;;
         run | loop) valued=" $_zmeta_search --heading --save " ;;
-        join) valued=' --heading ' ;;
+        join) valued=' --heading --save ' ;;
         records) valued=' --only --syntax ' ;;
     esac
     for ((i = 2; i < ${#words[@]}; i++)); do

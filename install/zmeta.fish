@@ -119,8 +119,10 @@ complete -c zmeta -n '__zmeta_in ask run loop join; and __zmeta_lacks --titles -
     -d 'Prints a page for a browser (HTML) in place of the list'
 complete -c zmeta -n '__zmeta_in ask run loop join; and __zmeta_lacks --heading' -l heading -x \
     -d 'Is the heading of the page that --html prints'
-complete -c zmeta -n '__zmeta_in ask run loop; and __zmeta_lacks --save' -l save -r -F \
+complete -c zmeta -n '__zmeta_in ask run loop join; and __zmeta_lacks --save' -l save -r -F \
     -d 'Saves what was brought, in the file OUT'
+complete -c zmeta -n '__zmeta_in join; and __zmeta_lacks --quiet --titles --fields --json --hex --html' -l quiet \
+    -d 'Prints no list: merges the files piece by piece, whatever their size'
 complete -c zmeta -n '__zmeta_in records' -l only -x \
     -d 'Writes just the records of this catalogue; may be given several times'
 complete -c zmeta -n '__zmeta_in records; and __zmeta_lacks --syntax' -l syntax -x \

@@ -34,6 +34,9 @@ RUNS = [
     (["loop", "--save", SAVED, "examples/libraries.world"], None),
     (["ask", "--save", SAVED, "tests/program/files/hosts.world"], None),
     (["join", "examples/monday.saved", "examples/tuesday.saved"], None),
+    # a file of all, with the list, and merged in pieces
+    (["join", "--save", SAVED, "examples/monday.saved", "examples/tuesday.saved"], None),
+    (["join", "--quiet", "--save", SAVED, "examples/monday.saved", "examples/tuesday.saved"], None),
     # one count, and two that differ
     (["join", "tests/out-of-memory/four.saved", "tests/out-of-memory/four.saved"], None),
     (["join", "tests/out-of-memory/four.saved", "tests/out-of-memory/five.saved"], None),

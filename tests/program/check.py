@@ -25,6 +25,7 @@ import json_lines
 import large
 import marc_made
 import marc_views
+import merging
 import names
 import opac_views
 import replies
@@ -179,6 +180,8 @@ def main():
         print(f"program: {len(stops.HOSTS)} hosts that stop, in the view and in JSON")
         faults += saving.faults(ZMETA, room)
         print("program: saved files where saving may fail")
+        faults += merging.faults(ZMETA)
+        print(f"program: {2 * merging.CASES} merges of saved files")
         faults += large.faults(ZMETA, room)
         print(f"program: large input of {len(large.COMMANDS)} commands")
         faults += [it for it in (fault_of_view(room, *it) for it in views.files()) if it]

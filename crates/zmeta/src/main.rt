@@ -3,15 +3,15 @@
 
 ghost use Rattle.std.specs.Prelude.{◌≡◌};
 ghost use Rattle.std.specs.Process.{exit_status};
-ghost use Rattle.zmeta_commands.specs.Faults.{code_of};
+ghost use Rattle.zmeta_devices.specs.Faults.{code_of};
 
 use std::io::{ErrorKind, IsTerminal, Stderr};
 use std::process::ExitCode;
 use std::{env, io};
 use zmeta_commands::commands::run;
-use zmeta_commands::fault::Status;
-use zmeta_commands::input::Input;
-use zmeta_commands::output::Output;
+use zmeta_devices::fault::Status;
+use zmeta_devices::input::Input;
+use zmeta_devices::output::Output;
 
 fn main(mut rt: HostRuntime) -> ExitCode {
     let arguments = arguments_of(&rt);

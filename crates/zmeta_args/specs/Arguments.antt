@@ -10,6 +10,7 @@ use Rattle.zmeta_args.specs.declared.arguments.SearchOptions.{SearchOptions}
 use Rattle.zmeta_args.specs.declared.arguments.LimitOptions.{LimitOptions}
 use Rattle.zmeta_args.specs.declared.arguments.CommandLine.{CommandLine}
 use Rattle.zmeta_args.specs.declared.arguments.Arguments.{Arguments}
+use Rattle.zmeta_args.specs.declared.arguments.TheConstants.{HEADING}
 use Rattle.zmeta_args.specs.declared.arguments.Arguments.TheVariants.{Show, Pqf, Join, Records, Run, Ask, Loop, Serve}
 use Rattle.zmeta_args.specs.Texts.{texts_of, now_of}
 
@@ -63,15 +64,15 @@ IsLeftOut found id = (one_text found id ≡ None) ⊎ (one_text found id ≡ Som
 
 -- the heading of a page
 abbrev pub heading_of : Found → List ℕ
-heading_of found = unwrap_or (first_value found (codes "heading")) (codes "What the catalogues answered")
+heading_of found = unwrap_or (first_value found (codes "heading")) HEADING.now
 
 -- a page under this heading is printed
 abbrev pub IsPage : List ℕ → View → Type 0
 IsPage heading (views.Html text) = text.now ≡ heading
 IsPage heading view = ⊥
 
--- what is printed: the titles, JSON, the list in hexadecimal, the titles with all fields, or a page, if that is asked for,
--- else the list
+-- what is printed: the titles, JSON, the list in hexadecimal, the titles with all fields, or a page, if that is asked
+-- for, else the list
 pub record HasView (found : Found) (view : View) : Type 0 where
   pub titles : IsGiven found (codes "titles") → view ≡ views.Titles
   pub json : IsLeftOut found (codes "titles") → IsGiven found (codes "json") → view ≡ views.Json
@@ -113,8 +114,10 @@ HasWorld found world saved search view = HasValue found (codes "FILE") world
 abbrev pub AreArgumentsOf : List ℕ → Found → Arguments → Type 0
 AreArgumentsOf name found Show = name ≡ codes "show"
 AreArgumentsOf name found (Pqf text) = (name ≡ codes "pqf") × HasValue found (codes "TEXT") text.now
-AreArgumentsOf name found (Join first others view) = (name ≡ codes "join") × HasValue found (codes "A") first.now
-    × HasValues found (codes "B") (texts_of others.items) × HasView found view
+AreArgumentsOf name found (Join first others saved quiet view) =
+    (name ≡ codes "join") × HasValue found (codes "A") first.now
+    × HasValues found (codes "B") (texts_of others.items) × (now_of saved ≡ first_value found (codes "save"))
+    × HasFlag found (codes "quiet") quiet × HasView found view
 AreArgumentsOf name found (Records first others only syntax conflicts) =
     (name ≡ codes "records") × HasValue found (codes "A") first.now
     × HasValues found (codes "B") (texts_of others.items) × HasValues found (codes "only") (texts_of only.items)

@@ -76,10 +76,13 @@ pub enum Arguments<'a> {
     Pqf {
         text: &'a str,
     },
-    /// Print the list of all facts of saved files: the first, and the others.
+    /// Print the list of all facts of saved files: the first, and the others. Save the facts if `saved` is a path; with
+    /// `quiet`, that alone is done.
     Join {
         first: &'a str,
         others: Vec<&'a str>,
+        saved: Option<&'a str>,
+        quiet: bool,
         view: View<'a>,
     },
     /// Ask the targets of a world file in memory, and print the list. Save the facts if `saved` is a path.
@@ -133,6 +136,9 @@ pub struct CommandLine<'a> {
     /// Whether each fault is also told in words.
     pub explain: bool,
 }
+
+/// The heading of a page if none is given.
+const HEADING: &str = "What the catalogues answered";
 
 /// Reads the command line: `arguments[0]` is the program's name and `arguments[1]` that of the command.
 ///
@@ -190,8 +196,8 @@ fn second(arguments: &[String]) -> Option<&str>
     }
 }
 
-/// Returns the command of this name with the arguments that were found, and what is common to all commands. `None` if no
-/// command has the name, or a required argument is missing.
+/// Returns the command of this name with the arguments that were found, and what is common to all commands. `None` if
+/// no command has the name, or a required argument is missing.
 fn named_line<'a>(
     alloc: Global,
     name: &str,
@@ -247,7 +253,7 @@ fn values_of<'a>(
     Ok(values)
 }
 
-/// Returns `join` with its paths: the first, and the others.
+/// Returns `join` with its paths: the first, the others, and that of the file to be made.
 fn joins_of<'a>(alloc: Global, found: &ArgMatches<'a>) -> Result<Option<Arguments<'a>>, AllocError>
     ensures asks { IfOk result (λ arguments. IfSome arguments (AreArgumentsOf (codes "join") (found_of found.now))) }
 {
@@ -258,6 +264,8 @@ fn joins_of<'a>(alloc: Global, found: &ArgMatches<'a>) -> Result<Option<Argument
     Ok(Some(Arguments::Join {
         first,
         others,
+        saved: found.get_str("save"),
+        quiet: found.get_flag("quiet"),
         view: view_of(found),
     }))
 }
@@ -267,7 +275,8 @@ fn records_of<'a>(
     alloc: Global,
     found: &ArgMatches<'a>,
 ) -> Result<Option<Arguments<'a>>, AllocError>
-    ensures asks { IfOk result (λ arguments. IfSome arguments (AreArgumentsOf (codes "records") (found_of found.now))) }
+    ensures asks { IfOk result (λ arguments. IfSome arguments (AreArgumentsOf (codes "records")
+        (found_of found.now))) }
 {
     let Some(first) = found.get_str("A") else {
         return Ok(None);
@@ -402,7 +411,7 @@ fn heading_of<'a>(found: &ArgMatches<'a>) -> &'a str
 {
     match found.get_str("heading") {
         Some(heading) => heading,
-        None => "What the catalogues answered",
+        None => HEADING,
     }
 }
 

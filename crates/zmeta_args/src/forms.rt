@@ -2,7 +2,7 @@
 
 use crate::options::{
     ANY, ASKED_SYNTAX, AT_ONCE, AUTHOR, CONFLICTS, CONNECT, CommandOption, ELEMENTS, EXPLAIN,
-    FIELDS, HEADING, HEX, HTML, IPV4, IPV6, ISBN, JSON, ONLY, ONLY_OF, PATIENCE, QUERY,
+    FIELDS, HEADING, HEX, HTML, IPV4, IPV6, ISBN, JSON, ONLY, ONLY_OF, PATIENCE, QUERY, QUIET,
     RECORDS as RECORDS_WANTED, SAVE, SUBJECT, SYNTAX, TITLE, TITLES, WITHIN, option,
 };
 use clap::{Arg, ArgAction, Command, value_parser};
@@ -113,15 +113,21 @@ prints first
 const JOIN: Form = Form {
     name: "join",
     about: "Puts together what searches of the same catalogues brought",
-    example: "A and each B are saved files, of the same catalogues in the same order. Prints
-one list of all that any search brought. Where they brought different records
-for one position of a result set, all of these are shown there as a conflict.
+    example: "A and each B are saved files, of the same catalogues in the same order; one is
+enough. Prints one list of all that any search brought. Where they brought
+different records for one position of a result set, all of these are shown there
+as a conflict. --save also makes one saved file of all of them. With --quiet
+that is all that is done: the files may then be larger than memory, the result
+may be joined with others in any order and grouping, and status 0 says that the
+file was made, whatever the searches came to.
 
 Example, the searches of two days:
   zmeta join monday.saved tuesday.saved
 prints lines as
   target \"city library\" set 1 count 2
-  1 \"city library\" 1 rec 1.2.840.10003.5.10 - \"first record\"",
+  1 \"city library\" 1 rec 1.2.840.10003.5.10 - \"first record\"
+and one file of a year is made of those of its months by
+  zmeta join --quiet --save year.saved month-*.saved",
     wants: &[
         SAVED,
         Argument {
@@ -130,10 +136,12 @@ prints lines as
             has_hyphen: false,
             is_count: false,
             is_many: true,
-            is_needed: true,
+            is_needed: false,
         },
     ],
-    may: &[TITLES, FIELDS, JSON, HEX, HTML, HEADING, EXPLAIN],
+    may: &[
+        TITLES, FIELDS, JSON, HEX, HTML, HEADING, SAVE, QUIET, EXPLAIN,
+    ],
 };
 
 const RECORDS: Form = Form {

@@ -23,6 +23,8 @@ pub(crate) struct CommandOption {
     most_seconds: Option<i64>,
     /// The options that may not be given together with it.
     excludes: &'static [&'static str],
+    /// The options that must be given together with it.
+    needs: &'static [&'static str],
 }
 
 pub(crate) const HEX: CommandOption = CommandOption {
@@ -33,6 +35,7 @@ pub(crate) const HEX: CommandOption = CommandOption {
     is_many: false,
     most_seconds: None,
     excludes: &[],
+    needs: &[],
 };
 
 pub(crate) const TITLES: CommandOption = CommandOption {
@@ -43,6 +46,7 @@ pub(crate) const TITLES: CommandOption = CommandOption {
     is_many: false,
     most_seconds: None,
     excludes: &["hex", "json"],
+    needs: &[],
 };
 
 pub(crate) const FIELDS: CommandOption = CommandOption {
@@ -53,6 +57,7 @@ pub(crate) const FIELDS: CommandOption = CommandOption {
     is_many: false,
     most_seconds: None,
     excludes: &["hex", "json", "titles"],
+    needs: &[],
 };
 
 pub(crate) const HTML: CommandOption = CommandOption {
@@ -63,6 +68,7 @@ pub(crate) const HTML: CommandOption = CommandOption {
     is_many: false,
     most_seconds: None,
     excludes: &["hex", "json", "titles", "fields"],
+    needs: &[],
 };
 
 pub(crate) const HEADING: CommandOption = CommandOption {
@@ -73,6 +79,7 @@ pub(crate) const HEADING: CommandOption = CommandOption {
     is_many: false,
     most_seconds: None,
     excludes: &[],
+    needs: &["html"],
 };
 
 pub(crate) const EXPLAIN: CommandOption = CommandOption {
@@ -83,6 +90,7 @@ pub(crate) const EXPLAIN: CommandOption = CommandOption {
     is_many: false,
     most_seconds: None,
     excludes: &[],
+    needs: &[],
 };
 
 pub(crate) const JSON: CommandOption = CommandOption {
@@ -93,6 +101,7 @@ pub(crate) const JSON: CommandOption = CommandOption {
     is_many: false,
     most_seconds: None,
     excludes: &["hex"],
+    needs: &[],
 };
 
 pub(crate) const QUERY: CommandOption = CommandOption {
@@ -103,6 +112,7 @@ pub(crate) const QUERY: CommandOption = CommandOption {
     is_many: false,
     most_seconds: None,
     excludes: &["title", "author", "subject", "isbn", "any"],
+    needs: &[],
 };
 
 pub(crate) const TITLE: CommandOption = CommandOption {
@@ -113,6 +123,7 @@ pub(crate) const TITLE: CommandOption = CommandOption {
     is_many: true,
     most_seconds: None,
     excludes: &[],
+    needs: &[],
 };
 
 pub(crate) const AUTHOR: CommandOption = CommandOption {
@@ -123,6 +134,7 @@ pub(crate) const AUTHOR: CommandOption = CommandOption {
     is_many: true,
     most_seconds: None,
     excludes: &[],
+    needs: &[],
 };
 
 pub(crate) const SUBJECT: CommandOption = CommandOption {
@@ -133,6 +145,7 @@ pub(crate) const SUBJECT: CommandOption = CommandOption {
     is_many: true,
     most_seconds: None,
     excludes: &[],
+    needs: &[],
 };
 
 pub(crate) const ISBN: CommandOption = CommandOption {
@@ -143,6 +156,7 @@ pub(crate) const ISBN: CommandOption = CommandOption {
     is_many: true,
     most_seconds: None,
     excludes: &[],
+    needs: &[],
 };
 
 pub(crate) const ANY: CommandOption = CommandOption {
@@ -153,6 +167,7 @@ pub(crate) const ANY: CommandOption = CommandOption {
     is_many: true,
     most_seconds: None,
     excludes: &[],
+    needs: &[],
 };
 
 pub(crate) const RECORDS: CommandOption = CommandOption {
@@ -163,6 +178,7 @@ pub(crate) const RECORDS: CommandOption = CommandOption {
     is_many: false,
     most_seconds: None,
     excludes: &[],
+    needs: &[],
 };
 
 pub(crate) const ELEMENTS: CommandOption = CommandOption {
@@ -173,6 +189,7 @@ pub(crate) const ELEMENTS: CommandOption = CommandOption {
     is_many: false,
     most_seconds: None,
     excludes: &[],
+    needs: &[],
 };
 
 pub(crate) const ASKED_SYNTAX: CommandOption = CommandOption {
@@ -183,6 +200,7 @@ pub(crate) const ASKED_SYNTAX: CommandOption = CommandOption {
     is_many: false,
     most_seconds: None,
     excludes: &[],
+    needs: &[],
 };
 
 pub(crate) const SAVE: CommandOption = CommandOption {
@@ -193,6 +211,18 @@ pub(crate) const SAVE: CommandOption = CommandOption {
     is_many: false,
     most_seconds: None,
     excludes: &[],
+    needs: &[],
+};
+
+pub(crate) const QUIET: CommandOption = CommandOption {
+    id: "quiet",
+    short: None,
+    help: "Prints no list: merges the files piece by piece, whatever their size",
+    value: None,
+    is_many: false,
+    most_seconds: None,
+    excludes: &["hex", "json", "titles", "fields", "html"],
+    needs: &["save"],
 };
 
 pub(crate) const AT_ONCE: CommandOption = CommandOption {
@@ -203,6 +233,7 @@ pub(crate) const AT_ONCE: CommandOption = CommandOption {
     is_many: false,
     most_seconds: None,
     excludes: &[],
+    needs: &[],
 };
 
 pub(crate) const CONNECT: CommandOption = CommandOption {
@@ -213,6 +244,7 @@ pub(crate) const CONNECT: CommandOption = CommandOption {
     is_many: false,
     most_seconds: Some(HOUR),
     excludes: &[],
+    needs: &[],
 };
 
 pub(crate) const IPV4: CommandOption = CommandOption {
@@ -223,6 +255,7 @@ pub(crate) const IPV4: CommandOption = CommandOption {
     is_many: false,
     most_seconds: None,
     excludes: &["ipv6"],
+    needs: &[],
 };
 
 pub(crate) const IPV6: CommandOption = CommandOption {
@@ -233,6 +266,7 @@ pub(crate) const IPV6: CommandOption = CommandOption {
     is_many: false,
     most_seconds: None,
     excludes: &[],
+    needs: &[],
 };
 
 pub(crate) const PATIENCE: CommandOption = CommandOption {
@@ -243,6 +277,7 @@ pub(crate) const PATIENCE: CommandOption = CommandOption {
     is_many: false,
     most_seconds: Some(HOUR),
     excludes: &[],
+    needs: &[],
 };
 
 pub(crate) const WITHIN: CommandOption = CommandOption {
@@ -253,6 +288,7 @@ pub(crate) const WITHIN: CommandOption = CommandOption {
     is_many: false,
     most_seconds: Some(DAY),
     excludes: &[],
+    needs: &[],
 };
 
 pub(crate) const ONLY: CommandOption = CommandOption {
@@ -263,6 +299,7 @@ pub(crate) const ONLY: CommandOption = CommandOption {
     is_many: true,
     most_seconds: None,
     excludes: &[],
+    needs: &[],
 };
 
 pub(crate) const SYNTAX: CommandOption = CommandOption {
@@ -273,6 +310,7 @@ pub(crate) const SYNTAX: CommandOption = CommandOption {
     is_many: false,
     most_seconds: None,
     excludes: &[],
+    needs: &[],
 };
 
 pub(crate) const ONLY_OF: CommandOption = CommandOption {
@@ -283,6 +321,7 @@ pub(crate) const ONLY_OF: CommandOption = CommandOption {
     is_many: true,
     most_seconds: None,
     excludes: &[],
+    needs: &[],
 };
 
 pub(crate) const CONFLICTS: CommandOption = CommandOption {
@@ -293,6 +332,7 @@ pub(crate) const CONFLICTS: CommandOption = CommandOption {
     is_many: false,
     most_seconds: None,
     excludes: &[],
+    needs: &[],
 };
 
 /// What reading an option does.
@@ -322,5 +362,7 @@ pub(crate) fn option(alloc: Global, extra: &CommandOption) -> Result<Arg<'static
         None => option,
         Some(value) => option.value_name(value),
     };
-    option.conflicts_with_all(extra.excludes)
+    option
+        .conflicts_with_all(extra.excludes)?
+        .requires_all(extra.needs)
 }

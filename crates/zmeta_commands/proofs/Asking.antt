@@ -7,8 +7,8 @@ use Rattle.zmeta_args.specs.Texts.{now_of}
 use Rattle.zmeta_world.specs.declared.world.World.{World}
 use Rattle.zmeta_commands.specs.Searches.{search_of, terms_of, chosen_query}
 use Rattle.zmeta_commands.specs.Worlds.{IsTextOf, SearchedResult, told_of}
-use Rattle.zmeta_commands.specs.declared.fault.Fault.{Fault}
-use Rattle.zmeta_commands.specs.declared.fault.Fault.TheVariants.{Read, Line, Query, Wanted, Syntax, Memory}
+use Rattle.zmeta_devices.specs.declared.fault.Fault.{Fault}
+use Rattle.zmeta_devices.specs.declared.fault.Fault.TheVariants.{Read, Line, Query, Wanted, Syntax, Memory}
 
 -- the text of `--query` is that of the search, if it is given
 is_chosen : (text : Option (Bor (List ℕ))) (terms : List (List ℕ × List ℕ))

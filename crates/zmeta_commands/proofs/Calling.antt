@@ -1,9 +1,9 @@
 -- What the program does for its arguments.
 use Rattle.std.proofs.Common.{◌≡◌, ℕ, List, Option, Result, Ok, Err, IfOk, MatchResult}
 use Rattle.clap.specs.declared.error.Error.{Error}
-use Rattle.zmeta_commands.specs.Devices.{Streams, written, explaining_streams}
-use Rattle.zmeta_commands.specs.Files.{MadeFiles}
-use Rattle.zmeta_commands.specs.declared.fault.Status.{Status}
+use Rattle.zmeta_devices.specs.Devices.{Streams, written, explaining_streams}
+use Rattle.zmeta_devices.specs.Files.{MadeFiles}
+use Rattle.zmeta_devices.specs.declared.fault.Status.{Status}
 use Rattle.zmeta_args.specs.declared.arguments.CommandLine.{CommandLine}
 use Rattle.zmeta_args.specs.Arguments.{IsParsed}
 use Rattle.zmeta_commands.specs.Arguments.{AfterCall, AfterParsed, AfterUsage}

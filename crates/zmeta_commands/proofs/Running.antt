@@ -1,12 +1,12 @@
 -- The ends of commands: what a command that asks writes and saves, help, and a target that is served.
 use Rattle.std.proofs.Common.{◌≡◌, ℕ, List, Option, Some, None, Result, Ok, Err, IfSome, IfErr, inl, inr}
 use Rattle.zmeta_commands.specs.Arguments.{HelpResult, IsTold}
-use Rattle.zmeta_commands.specs.Devices.{Device, PutResult, PutKnownResult}
+use Rattle.zmeta_devices.specs.Devices.{Device, PutResult, PutKnownResult}
 use Rattle.zmeta_world.specs.declared.world.World.{World}
 use Rattle.zmeta_world.specs.Worlds.{IsWorld}
 use Rattle.zmeta_commands.specs.Serve.{Serves, Wanted, ServeResult, ServeWorldResult, IsUnserved, IsServiceEnd}
-use Rattle.zmeta_commands.specs.declared.fault.Fault.{Fault}
-use Rattle.zmeta_commands.specs.declared.fault.Fault.TheVariants.{Write, Serve, Memory}
+use Rattle.zmeta_devices.specs.declared.fault.Fault.{Fault}
+use Rattle.zmeta_devices.specs.declared.fault.Fault.TheVariants.{Write, Serve, Memory}
 
 -- ---- help
 

@@ -1,10 +1,11 @@
 -- What the program does with the arguments of a command line.
-use Rattle.std.specs.Prelude.{◌≡◌, ◌⊎◌, ℕ, List, ◌∷◌, Option, None, Result, Ok, Err, IfSome}
+use Rattle.std.specs.Prelude.{◌≡◌, ◌⊎◌, ℕ, Bool, true, false, List, ◌∷◌, Option, Some, None, Result, Ok, Err, IfSome}
 use Rattle.clap.specs.Words.{kind_of}
 use Rattle.clap.specs.declared.error.Error.{Error}
 use Rattle.clap.specs.declared.error.kind.ErrorKind.{ErrorKind}
 use Rattle.clap.specs.declared.error.kind.ErrorKind.TheVariants as kinds
 use Rattle.zmeta_args.specs.declared.arguments.Arguments.{Arguments}
+use Rattle.zmeta_args.specs.declared.arguments.View.{View}
 use Rattle.zmeta_args.specs.declared.arguments.CommandLine.{CommandLine}
 use Rattle.zmeta_args.specs.declared.arguments.Arguments.TheVariants.{Show, Pqf, Join, Records, Run, Ask, Loop, Serve}
 use Rattle.zmeta_args.specs.Texts.{texts_of, now_of}
@@ -12,21 +13,34 @@ use Rattle.zmeta_args.specs.Arguments.{IsParsed}
 use Rattle.zoom.specs.Limits.{Limits}
 use Rattle.zmeta_commands.specs.Ask.{AfterAsk}
 use Rattle.zmeta_commands.specs.Choice.{AreLimits, manner_of}
-use Rattle.zmeta_commands.specs.Join.{AfterJoin}
+use Rattle.zmeta_offline.specs.Join.{AfterJoin, AfterJoinSaved}
+use Rattle.zmeta_offline.specs.Merged.{AfterMerge}
 use Rattle.zmeta_commands.specs.Loop.{AfterLoop}
-use Rattle.zmeta_commands.specs.Pqf.{AfterPqf}
-use Rattle.zmeta_commands.specs.Records.{AfterRecords}
+use Rattle.zmeta_offline.specs.Pqf.{AfterPqf}
+use Rattle.zmeta_offline.specs.Records.{AfterRecords}
 use Rattle.zmeta_commands.specs.Run.{AfterRun}
 use Rattle.zmeta_commands.specs.Searches.{search_of}
 use Rattle.zmeta_commands.specs.Serve.{Serves, AfterServe}
-use Rattle.zmeta_commands.specs.Show.{AfterShow}
-use Rattle.zmeta_commands.specs.Faults.{as_done}
-use Rattle.zmeta_commands.specs.Files.{MadeFiles}
-use Rattle.zmeta_commands.specs.Devices.{Device, Outputs, Streams, written, explaining_streams, IsUnchanged, IsBroken, HasGained, HasStopped, AfterTell, AfterEnd}
-use Rattle.zmeta_commands.specs.declared.fault.Fault.{Fault}
-use Rattle.zmeta_commands.specs.declared.fault.Fault.TheVariants as faults
-use Rattle.zmeta_commands.specs.declared.fault.Status.{Status}
-use Rattle.zmeta_commands.specs.declared.fault.Status.TheVariants as statuses
+use Rattle.zmeta_offline.specs.Show.{AfterShow}
+use Rattle.zmeta_devices.specs.Faults.{as_done}
+use Rattle.zmeta_devices.specs.Files.{MadeFiles}
+use Rattle.zmeta_devices.specs.Devices.{Device, Outputs, Streams, written, explaining_streams, IsUnchanged, IsBroken, HasGained, HasStopped, AfterTell, AfterEnd}
+use Rattle.zmeta_devices.specs.declared.fault.Fault.{Fault}
+use Rattle.zmeta_devices.specs.declared.fault.Fault.TheVariants as faults
+use Rattle.zmeta_devices.specs.declared.fault.Status.{Status}
+use Rattle.zmeta_devices.specs.declared.fault.Status.TheVariants as statuses
+
+-- the files made, the streams and the status after `join` of the files at these paths: a list is printed; if a path is
+-- given, a file is made there too, or, if no list is wanted, that alone is done
+abbrev pub AfterJoinCall
+    : View → (List ℕ → Option (List ℕ)) → List (List ℕ) → Option (List ℕ) → Bool → MadeFiles → MadeFiles → Outputs
+    → Outputs → Status → Type 0
+AfterJoinCall view octets paths None quiet old new before after status =
+    (new ≡ old) × AfterJoin view octets paths before after status
+AfterJoinCall view octets paths (Some saved) true old new before after status =
+    (after.output ≡ before.output) × AfterMerge octets paths saved old new before.errors after.errors status
+AfterJoinCall view octets paths (Some saved) false old new before after status =
+    AfterJoinSaved view octets paths saved old new before after status
 
 -- the files made, the streams and the status after the command, with these arguments and no others; `octets` are those
 -- of the files at paths, `Stream` are the streams of the system, and `serves` is how it serves a target
@@ -36,9 +50,9 @@ abbrev pub AfterCall
 AfterCall Stream serves octets Show old new before after status = (new ≡ old) × AfterShow before after status
 AfterCall Stream serves octets (Pqf text) old new before after status =
     (new ≡ old) × (after.input ≡ before.input) × AfterPqf text.now (written before) (written after) status
-AfterCall Stream serves octets (Join first others view) old new before after status =
-    (new ≡ old) × (after.input ≡ before.input)
-    × AfterJoin view octets (first.now ∷ texts_of others.items) (written before) (written after) status
+AfterCall Stream serves octets (Join first others saved quiet view) old new before after status =
+    (after.input ≡ before.input) × AfterJoinCall view octets (first.now ∷ texts_of others.items) (now_of saved) quiet old
+    new (written before) (written after) status
 AfterCall Stream serves octets (Records first others only syntax conflicts) old new before after status =
     (new ≡ old) × (after.input ≡ before.input)
     × AfterRecords (record { only = texts_of only.items; syntax = now_of syntax; conflicts = conflicts }) octets

@@ -7,9 +7,10 @@ use Rattle.zmeta_world.specs.Worlds.{IsRefused}
 use Rattle.zmeta_world.specs.Search.{SearchTexts}
 use Rattle.zmeta_world.specs.NetworkRuns.{IsNetworkRun, IsFirstTargetLine}
 use Rattle.zoom.specs.Asking.{IsAsked}
-use Rattle.zmeta_commands.specs.Choice.{ChoiceTexts, AreAllKnown, IsChosen, IsFirstUnknown}
-use Rattle.zmeta_commands.specs.declared.fault.Fault.{Fault}
-use Rattle.zmeta_commands.specs.declared.fault.Fault.TheVariants.{Read, Line, Query, Wanted, Syntax, NoQuestion, Memory}
+use Rattle.zmeta_commands.specs.Choice.{ChoiceTexts, IsChosen}
+use Rattle.zmeta_offline.specs.Names.{AreAllKnown, IsFirstUnknown}
+use Rattle.zmeta_devices.specs.declared.fault.Fault.{Fault}
+use Rattle.zmeta_devices.specs.declared.fault.Fault.TheVariants.{Read, Line, Query, Wanted, Syntax, NoQuestion, Memory}
 use Rattle.zmeta_commands.specs.declared.finished.Finished.{Finished}
 use Rattle.zmeta_commands.specs.Worlds.{IsSearchedFile, IsSearchRefusal}
 use Rattle.zmeta_commands.specs.Finished.{asker, IsListed, Command, AfterCommand}

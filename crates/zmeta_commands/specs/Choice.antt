@@ -1,10 +1,8 @@
 -- The choice of questions, and how their hosts are asked.
-use Rattle.std.specs.Prelude.{◌≡◌, ℕ, ◌<◌, ◌*◌, Bool, true, false, List, [], ◌∷◌, length, slice_get, Option, Some, None, Result, Ok, Err}
+use Rattle.std.specs.Prelude.{◌≡◌, ℕ, ◌<◌, ◌*◌, Bool, true, false, List, length, slice_get, Option, Some, None, Result, Ok, Err}
 use Rattle.std.specs.declared.time.Duration.{Duration}
 use Rattle.std.specs.Duration.{as_nanos}
-use Rattle.std.specs.List.{list_any}
 use Rattle.std.specs.Option.{unwrap_or}
-use Rattle.std.specs.Str.{bytes_eq}
 use Rattle.zmeta_args.specs.Texts.{texts_of}
 use Rattle.zmeta_args.specs.declared.arguments.LimitOptions.{LimitOptions}
 use Rattle.zoom.specs.Manner.{Manner}
@@ -13,8 +11,9 @@ use Rattle.zoom.specs.Limits.{Limits}
 use Rattle.zoom.specs.Family.{Family}
 use Rattle.zoom.specs.Family.TheVariants as families
 use Rattle.zmeta_commands.specs.declared.choice.Choice.{Choice}
-use Rattle.zmeta_commands.specs.declared.fault.Fault.{Fault}
-use Rattle.zmeta_commands.specs.declared.fault.Fault.TheVariants.{NoQuestion, Memory}
+use Rattle.zmeta_offline.specs.Names.{is_picked, AreAllKnown, IsFirstUnknown}
+use Rattle.zmeta_devices.specs.declared.fault.Fault.{Fault}
+use Rattle.zmeta_devices.specs.declared.fault.Fault.TheVariants.{NoQuestion, Memory}
 
 -- how the hosts are talked with, the names of the questions to ask, or none for all, and how long hosts are waited for
 pub record ChoiceTexts : Type 0 where
@@ -54,15 +53,6 @@ pub record AreLimits (o : LimitOptions) (l : Limits) : Type 0 where
   pub total : IsLimit (unwrap_or o.within 3600) l.total
   pub family : l.family ≡ family_of o.only_v4 o.only_v6
 
--- the name is among the names
-abbrev pub is_among : List (List ℕ) → List ℕ → Bool
-is_among names name = list_any (λ known. bytes_eq known name) names
-
--- the name is among `only`, or `only` is empty
-abbrev pub is_picked : List (List ℕ) → List ℕ → Bool
-is_picked [] name = true
-is_picked (first ∷ only) name = is_among (first ∷ only) name
-
 -- the address of a chosen question
 abbrev pub address_if : Bool → List ℕ → Option (List ℕ)
 address_if true address = Some address
@@ -79,22 +69,6 @@ pub record IsChosen (only names addresses : List (List ℕ)) (chosen : List (Opt
   pub size : length chosen ≡ length addresses
   pub each : AreChosen only names addresses (length chosen) chosen
 
--- each of the first n names is a question's
-abbrev pub AreKnown : List (List ℕ) → List (List ℕ) → ℕ → Type 0
-AreKnown only names n =
-    (c : ℕ) (name : List ℕ) → c < n → slice_get only c ≡ Some name → is_among names name ≡ true
-
--- each of the names is a question's
-abbrev pub AreAllKnown : List (List ℕ) → List (List ℕ) → Type 0
-AreAllKnown only names = AreKnown only names (length only)
-
--- the name is the first that no question has
-pub record IsFirstUnknown (only names : List (List ℕ)) (name : List ℕ) : Type 0 where
-  pub at : ℕ
-  pub stands : slice_get only at ≡ Some name
-  pub unknown : is_among names name ≡ false
-  pub known : AreKnown only names at
-
 -- the addresses of the chosen questions, or the first name that no question has
 abbrev pub AddressesResult
     : List (List ℕ) → List (List ℕ) → List (List ℕ) → Result (List (Option (List ℕ))) Fault → Type 0
@@ -102,11 +76,6 @@ AddressesResult only names addresses (Ok chosen) = AreAllKnown only names × IsC
 AddressesResult only names addresses (Err (NoQuestion name)) = IsFirstUnknown only names name.now
 AddressesResult only names addresses (Err Memory) = Unit {0}
 AddressesResult only names addresses (Err _) = ⊥
-
--- each of the names is known, or this is the first that is not
-abbrev pub FirstUnknownResult : List (List ℕ) → List (List ℕ) → Option (List ℕ) → Type 0
-FirstUnknownResult only names None = AreAllKnown only names
-FirstUnknownResult only names (Some name) = IsFirstUnknown only names name
 
 -- each of the names is a question's, or this is the first that is not
 abbrev pub CheckNamesResult : List (List ℕ) → List (List ℕ) → Result (Unit {0}) Fault → Type 0

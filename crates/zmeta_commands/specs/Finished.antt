@@ -7,22 +7,22 @@ use Rattle.zmeta_args.specs.declared.arguments.View.{View}
 use Rattle.zknow.specs.Known.{HasFailure}
 use Rattle.zknow_stops.specs.declared.stop.Stop.{Stop}
 use Rattle.zoom.specs.Limits.{Limits}
-use Rattle.zmeta_commands.specs.Explained.{stop_line}
+use Rattle.zmeta_devices.specs.Explained.{stop_line}
 use Rattle.zmeta_commands.specs.Stops.{AreStops}
-use Rattle.zmeta_commands.specs.Views.{printed}
-use Rattle.zknow.specs.Saved.Saved.{IsSaved, HasTooDeep, HasTooLong}
+use Rattle.zmeta_offline.specs.Saved.{SaveFactsResult}
+use Rattle.zmeta_offline.specs.Views.{printed}
 use Rattle.zoom.specs.State.{State}
 use Rattle.zoom.specs.State.TheVariants as states
 use Rattle.zoom.specs.Reasons.{reason_name}
 use Rattle.zoom.specs.Transcripts.{Transcript, state_at}
 use Rattle.zoom.specs.PoolSteps.{IsStateAt}
 use Rattle.zoom.specs.Metas.{MetaLinks, IsTranscriptValue, is_skipped, is_complete}
-use Rattle.zmeta_commands.specs.Files.{MadeFiles, MakesFile, MakesInPart}
-use Rattle.zmeta_commands.specs.Devices.{Device, Outputs, HasGained, HasStopped, AreUnwritten, AfterTellLines, AfterReport, AfterEnd}
-use Rattle.zmeta_commands.specs.declared.fault.Fault.{Fault}
-use Rattle.zmeta_commands.specs.declared.fault.Fault.TheVariants.{Read, Write, Line, Memory, Query, Wanted, Syntax}
-use Rattle.zmeta_commands.specs.declared.fault.Status.{Status}
-use Rattle.zmeta_commands.specs.declared.fault.Status.TheVariants as statuses
+use Rattle.zmeta_devices.specs.Files.{MadeFiles}
+use Rattle.zmeta_devices.specs.Devices.{Device, Outputs, HasGained, HasStopped, AreUnwritten, AfterTellLines, AfterReport, AfterEnd}
+use Rattle.zmeta_devices.specs.declared.fault.Fault.{Fault}
+use Rattle.zmeta_devices.specs.declared.fault.Fault.TheVariants.{Read, Write, Line, Memory, Query, Wanted, Syntax}
+use Rattle.zmeta_devices.specs.declared.fault.Status.{Status}
+use Rattle.zmeta_devices.specs.declared.fault.Status.TheVariants as statuses
 use Rattle.zmeta_commands.specs.declared.failures.Told.{Told as Telling}
 use Rattle.zmeta_commands.specs.declared.finished.Finished.{Finished}
 
@@ -30,8 +30,8 @@ use Rattle.zmeta_commands.specs.declared.finished.Finished.{Finished}
 abbrev pub asker : List ℕ
 asker = codes "zmeta"
 
--- the list of the facts of these connections, and why they stopped, with these limits; their questions were put to these
--- addresses, or to targets in memory
+-- the list of the facts of these connections, and why they stopped, with these limits; their questions were put to
+-- these addresses, or to targets in memory
 pub record IsListed (limits : Limits) (meta : MetaLinks) (names : List (List ℕ)) (addresses : List (Option (List ℕ)))
     (view : View) (r : Finished) : Type 0 where
   pub of : r.meta ≡ meta
@@ -151,54 +151,12 @@ IsFinishedStatus r status = IsStatusOf r.addresses.items r.meta status
 
 -- ---- saving
 
--- the octets are the saved file of what is known
-abbrev pub IsSavedOf : Finished → List ℕ → Type 0
-IsSavedOf r octets = IsSaved r.names r.meta.pool.knowledge octets
-
--- an element of the saved file would pass the limits
-abbrev pub IsOverLimits : Finished → Type 0
-IsOverLimits r = HasTooDeep r.names r.meta.pool.knowledge ⊎ HasTooLong r.names r.meta.pool.knowledge
-
--- the octets of the saved file, or why there are none; the file at the path is refused only if they pass the limits
-abbrev pub SavedOctetsResult : List ℕ → Finished → Result (List ℕ) Fault → Type 0
-SavedOctetsResult path r (Ok octets) = IsSavedOf r octets
-SavedOctetsResult path r (Err (Write failed)) = (failed.now ≡ path) × IsOverLimits r
-SavedOctetsResult path r (Err Memory) = Unit {0}
-SavedOctetsResult path r (Err _) = ⊥
-
--- a file was made at the path that holds these octets; or not whole, and the fault names the path
-abbrev pub MakeFileResult
-    : MadeFiles → MadeFiles → List ℕ → List ℕ → Result (Unit {0}) Fault → Type 0
-MakeFileResult old new path octets (Ok u) = MakesFile old new (record { path = path; octets = octets })
-MakeFileResult old new path octets (Err (Write failed)) = (failed.now ≡ path) × MakesInPart old new path octets
-MakeFileResult old new path octets (Err _) = ⊥
-
--- exactly one file was made, at the path, and it holds the octets of the saved file; none if no path is given
-abbrev pub HasSavedFile : Finished → Option (List ℕ) → MadeFiles → MadeFiles → Type 0
-HasSavedFile r None old new = new ≡ old
-HasSavedFile r (Some path) old new =
-    (octets : List ℕ) × IsSavedOf r octets × MakesFile old new (record { path = path; octets = octets })
-
--- the saved file was not made whole at the path: no file was made, or one there that holds a front of its octets
-abbrev pub IsPartlySaved : Finished → List ℕ → MadeFiles → MadeFiles → Type 0
-IsPartlySaved r path old new =
-    (octets : List ℕ) × IsSavedOf r octets × MakesInPart old new path octets
-
--- the facts were not saved at the path: no file was made, since an element passes the limits; or none was made whole
-abbrev pub IsUnsaved : Finished → List ℕ → MadeFiles → MadeFiles → Type 0
-IsUnsaved r path old new = (IsOverLimits r × (new ≡ old)) ⊎ IsPartlySaved r path old new
-
--- the facts are to be saved at some path
-abbrev pub IsToBeSaved : Option (List ℕ) → Type 0
-IsToBeSaved None = ⊥
-IsToBeSaved (Some path) = Unit {0}
-
--- the facts were saved if a path is given; or not, since the file there could not be made, or no memory was found
+-- the facts were saved in one file if a path is given, and no file was made if none is given; or the file there could not
+-- be made, or no memory was found
 abbrev pub SaveResult : Finished → Option (List ℕ) → MadeFiles → MadeFiles → Result (Unit {0}) Fault → Type 0
-SaveResult r saved old new (Ok u) = HasSavedFile r saved old new
-SaveResult r saved old new (Err (Write failed)) = (saved ≡ Some failed.now) × IsUnsaved r failed.now old new
-SaveResult r saved old new (Err Memory) = IsToBeSaved saved × (new ≡ old)
-SaveResult r saved old new (Err _) = ⊥
+SaveResult r None old new (Ok u) = new ≡ old
+SaveResult r None old new (Err f) = ⊥
+SaveResult r (Some path) old new result = SaveFactsResult r.names r.meta.pool.knowledge path old new result
 
 -- ---- the end of a command
 

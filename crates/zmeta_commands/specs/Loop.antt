@@ -5,8 +5,8 @@ use Rattle.zmeta_world.specs.declared.in_memory.InMemoryRun.{InMemoryRun}
 use Rattle.zmeta_world.specs.Search.{SearchTexts}
 use Rattle.zoom.specs.Loopback.{IsLoopbackRun}
 use Rattle.zmeta_commands.specs.Worlds.{IsSearchRefusal}
-use Rattle.zmeta_commands.specs.declared.fault.Fault.{Fault}
-use Rattle.zmeta_commands.specs.declared.fault.Fault.TheVariants.{Read, Line, Query, Wanted, Syntax, Serve, Memory}
+use Rattle.zmeta_devices.specs.declared.fault.Fault.{Fault}
+use Rattle.zmeta_devices.specs.declared.fault.Fault.TheVariants.{Read, Line, Query, Wanted, Syntax, Serve, Memory}
 use Rattle.zmeta_commands.specs.declared.finished.Finished.{Finished}
 use Rattle.zmeta_commands.specs.Finished.{Command, AfterCommand}
 use Rattle.zmeta_commands.specs.Run.{IsInMemoryFile, IsLineAtFault, IsListedRun}

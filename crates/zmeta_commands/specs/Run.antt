@@ -10,8 +10,8 @@ use Rattle.zoom.specs.Limits.{Limits}
 use Rattle.zoom.specs.Run.{IsRun}
 use Rattle.zoom.specs.RunMade.{IsMovedRunInMemory}
 use Rattle.zoom.specs.RunRounds.{IsCompleteRun}
-use Rattle.zmeta_commands.specs.declared.fault.Fault.{Fault}
-use Rattle.zmeta_commands.specs.declared.fault.Fault.TheVariants.{Read, Line, Memory}
+use Rattle.zmeta_devices.specs.declared.fault.Fault.{Fault}
+use Rattle.zmeta_devices.specs.declared.fault.Fault.TheVariants.{Read, Line, Memory}
 use Rattle.zmeta_commands.specs.declared.finished.Finished.{Finished}
 use Rattle.zmeta_commands.specs.Worlds.{IsSearchedFile, IsSearchRefusal}
 use Rattle.zmeta_commands.specs.Finished.{asker, IsListed, IsOfSearchedWorld, Command, AfterCommand}

@@ -6,11 +6,12 @@ use Rattle.zmeta_world.specs.Worlds.{IsWorld, IsRefused}
 use Rattle.zmeta_world.specs.InMemoryRuns.{target_named}
 use Rattle.zoom.specs.Serving.{AfterServeAt}
 use Rattle.zoom.specs.ServeError.{ServeError}
-use Rattle.zmeta_commands.specs.Faults.{as_done, of_serve}
-use Rattle.zmeta_commands.specs.Devices.{Device, AfterEnd}
-use Rattle.zmeta_commands.specs.declared.fault.Fault.{Fault}
-use Rattle.zmeta_commands.specs.declared.fault.Fault.TheVariants.{Read, Line, Serve, Memory}
-use Rattle.zmeta_commands.specs.declared.fault.Status.{Status}
+use Rattle.zoom.specs.ServeError.TheVariants as serves
+use Rattle.zmeta_devices.specs.Faults.{as_done}
+use Rattle.zmeta_devices.specs.Devices.{Device, AfterEnd}
+use Rattle.zmeta_devices.specs.declared.fault.Fault.{Fault}
+use Rattle.zmeta_devices.specs.declared.fault.Fault.TheVariants.{Read, Line, Serve, Memory}
+use Rattle.zmeta_devices.specs.declared.fault.Status.{Status}
 use Rattle.zmeta_commands.specs.declared.serve.Service.{Service}
 
 -- what is to be served: at which address, the target of which name, of the world at which path, for so many connections
@@ -29,6 +30,11 @@ service_of s = record { address = s.address.now; name = s.name.now; world = s.wo
 -- serving a target at an address for so many connections ended with this result
 abbrev pub Serves : Type 1
 Serves = List ℕ → NamedTarget → ℕ → Result (Unit {0}) Fault → Type 0
+
+-- the fault for a target that cannot be served
+abbrev pub of_serve : ServeError → Fault
+of_serve serves.Listen = Serve
+of_serve serves.Memory = Memory
 
 -- the result of serving as one of the program
 abbrev pub served_result : Result (Unit {0}) ServeError → Result (Unit {0}) Fault

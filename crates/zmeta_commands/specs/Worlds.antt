@@ -3,13 +3,13 @@ use Rattle.std.specs.Prelude.{◌≡◌, ◌⊎◌, ℕ, List, Option, None, Res
 use Rattle.std.specs.Borrow.{Bor}
 use Rattle.zmeta_args.specs.Texts.{now_of}
 use Rattle.zmeta_args.specs.declared.arguments.SearchOptions.{SearchOptions}
-use Rattle.zmeta_commands.specs.Faults.{of_options}
+use Rattle.zmeta_devices.specs.Faults.{of_options}
 use Rattle.zmeta_world.specs.declared.world.World.{World}
 use Rattle.zmeta_world.specs.Worlds.{IsWorld, IsRefused}
 use Rattle.zmeta_world.specs.Search.{SearchTexts, IsWorldWith, IsSearchFault}
 use Rattle.zmeta_world.specs.declared.search.SearchError.TheVariants as searches
-use Rattle.zmeta_commands.specs.declared.fault.Fault.{Fault}
-use Rattle.zmeta_commands.specs.declared.fault.Fault.TheVariants.{Read, Line, Query, Wanted, Syntax, Memory}
+use Rattle.zmeta_devices.specs.declared.fault.Fault.{Fault}
+use Rattle.zmeta_devices.specs.declared.fault.Fault.TheVariants.{Read, Line, Query, Wanted, Syntax, Memory}
 
 -- the world of a file, or the line that is refused
 abbrev pub WorldResult : List ℕ → Result World Fault → Type 0

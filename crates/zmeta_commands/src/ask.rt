@@ -4,17 +4,14 @@ ghost use Rattle.std.specs.Prelude.{◌≡◌, ◌<◌, ◌^◌, length, IfOk, I
 ghost use Rattle.std.specs.Option.{option_map};
 ghost use Rattle.zoom.specs.Askable.{AreAskable, AreFit};
 ghost use Rattle.zoom.specs.Asking.{IsAsked};
-ghost use Rattle.zmeta_commands.specs.Devices.{outputs};
+ghost use Rattle.zmeta_devices.specs.Devices.{outputs};
 ghost use Rattle.zmeta_commands.specs.Finished.{HasNames, IsOfSearchedWorld};
 ghost use Rattle.zmeta_commands.specs.Choice.{choice_texts};
 ghost use Rattle.zmeta_commands.specs.Searches.{search_of};
 ghost use Rattle.zmeta_commands.specs.Ask.{ReadNetworkResult, CanBeAsked, AskNetworkResult, AskFileResult, IsOfAsking, AfterAsk};
 
 use crate::choice::{Choice, addresses_of};
-use crate::fault::{Fault, Status};
-use crate::files::Folder;
 use crate::finished::{Finished, NAME, Paths, conclude};
-use crate::output::Output;
 use crate::progress::Progress;
 use crate::worlds::world_at;
 use bytes::Bytes;
@@ -23,6 +20,9 @@ use std::io::Write;
 use std::net::Net;
 use std::time::Clock;
 use zmeta_args::{SearchOptions, View};
+use zmeta_devices::fault::{Fault, Status};
+use zmeta_devices::files::Folder;
+use zmeta_devices::output::Output;
 use zmeta_world::network::NetworkRun;
 use zoom::{Asked, Limits, Manner, MetaSettings, Question, ask};
 

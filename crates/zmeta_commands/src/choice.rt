@@ -2,17 +2,16 @@
 
 ghost use Rattle.std.specs.Prelude.{◌≡◌, ◌*◌, length, Ok, Err, IfOk, MatchResult};
 ghost use Rattle.std.specs.Duration.{as_nanos};
-ghost use Rattle.std.specs.List.{list_any};
-ghost use Rattle.std.specs.Option.{option_map};
-ghost use Rattle.std.specs.Str.{bytes_eq};
 ghost use Rattle.zmeta_args.specs.Texts.{texts_of};
-ghost use Rattle.zmeta_commands.specs.Choice.{AreLimits, family_of, manner_of, is_among, is_picked, address_if, IsChosen, AddressesResult, FirstUnknownResult, CheckNamesResult};
+ghost use Rattle.zmeta_commands.specs.Choice.{AreLimits, family_of, manner_of, address_if, IsChosen, AddressesResult, CheckNamesResult};
+ghost use Rattle.zmeta_offline.specs.Names.{is_picked};
 
-use crate::fault::Fault;
 use bytes::Bytes;
 use std::alloc::{AllocError, Global};
 use std::time::Duration;
 use zmeta_args::LimitOptions;
+use zmeta_devices::fault::Fault;
+use zmeta_offline::names::{first_unknown, is_picked};
 use zoom::{Family, Limits, Manner};
 
 /// Which questions are asked, and how.
@@ -75,39 +74,6 @@ pub(crate) fn manner_of(at_once: bool) -> Manner
     } else {
         Manner::InOrder
     }
-}
-
-/// Returns whether the name is among the names.
-fn is_among(names: &[Bytes], name: &[u8]) -> bool
-    ensures { result ≡ is_among names.now name.now }
-{
-    names.iter().any(|known| known.as_slice() == name)
-}
-
-/// Returns whether the name is among the texts.
-fn is_text(texts: &[&str], name: &[u8]) -> bool
-    ensures { result ≡ list_any (λ text. bytes_eq text.now name.now) texts.now }
-{
-    texts.iter().any(|text| text.as_bytes() == name)
-}
-
-/// Returns whether the name is among `only`, or `only` is empty.
-pub(crate) fn is_picked(only: &[&str], name: &[u8]) -> bool
-    ensures { result ≡ is_picked (texts_of only.now) name.now }
-{
-    only.is_empty() || is_text(only, name)
-}
-
-/// Returns the first of these texts that is not among the names, if there is one.
-pub(crate) fn first_unknown<'a>(only: &[&'a str], names: &[Bytes]) -> Option<&'a str>
-    ensures { FirstUnknownResult (texts_of only.now) names.now (option_map (λ text. text.now) result) }
-{
-    for text in only {
-        if !is_among(names, text.as_bytes()) {
-            return Some(*text);
-        }
-    }
-    None
 }
 
 /// Checks that each name is that of a question. `NoQuestion` gives the first that is not.

@@ -1,24 +1,16 @@
 //! From the arguments of the command line to the command that they ask for.
 ghost use Rattle.std.specs.Prelude.{◌≡◌, Err, IfErr, IfOk, MatchResult, map, string_bytes};
-ghost use Rattle.zmeta_commands.specs.Devices.{output_device, outputs, streams, explaining_streams};
+ghost use Rattle.zmeta_devices.specs.Devices.{output_device, outputs, streams, explaining_streams};
 ghost use Rattle.zmeta_commands.specs.Arguments.{AfterCall, AfterArguments, AfterUsage, IsWrong};
 ghost use Rattle.zmeta_commands.specs.Serve.{ServedAt};
 
 use crate::ask::ask_named;
 use crate::choice::{Choice, limits_of, manner_of};
 use crate::doors::Doors;
-use crate::fault::{Fault, Status};
-use crate::files::Folder;
 use crate::finished::Paths;
-use crate::input::Input;
-use crate::join::join_named;
 use crate::looped::loop_named;
-use crate::output::Output;
-use crate::pqf::pqf;
-use crate::records::{Extract, SavedFiles, records_named};
 use crate::run::run_named;
 use crate::serve::{Service, serve_named};
-use crate::show::show;
 use crate::usage::print_usage;
 use clap::Error;
 use std::alloc::Global;
@@ -26,6 +18,15 @@ use std::io::{ErrorKind, Read, Write};
 use std::net::Net;
 use std::time::Clock;
 use zmeta_args::{Arguments, CommandLine, odd_arguments, parse};
+use zmeta_devices::fault::{Fault, Status};
+use zmeta_devices::files::Folder;
+use zmeta_devices::input::Input;
+use zmeta_devices::output::Output;
+use zmeta_offline::join::{join_named, join_saved};
+use zmeta_offline::merged::merge_named;
+use zmeta_offline::pqf::pqf;
+use zmeta_offline::records::{Extract, SavedFiles, records_named};
+use zmeta_offline::show::show;
 
 /// Runs the command that the arguments ask for: `arguments[0]` is the program's name and `arguments[1]` that of
 /// the command.
@@ -92,8 +93,8 @@ fn run_parsed<'a, S: Folder + Doors + Net + Clock, R: Read, W: Write, E: Write, 
     screen: Option<P>,
 ) -> Status
     ensures { MatchResult asked.entry
-        (λ line. AfterCall S.Stream (ServedAt S S.Client S.IsAt (S.IsShut system.old)) (S.octets system.old) line.command
-        (S.made system.old) (S.made system.new)
+        (λ line. AfterCall S.Stream (ServedAt S S.Client S.IsAt (S.IsShut system.old)) (S.octets system.old)
+        line.command (S.made system.old) (S.made system.new)
         (explaining_streams line.explain (streams R.remaining W.contents E.contents input.old output.old errors.old))
         (streams R.remaining W.contents E.contents input.new output.new errors.new) result)
         (λ error. (S.made system.new ≡ S.made system.old) × (input.new ≡ input.old)
@@ -150,16 +151,17 @@ fn call<'a, S: Folder + Doors + Net + Clock, R: Read, W: Write, E: Write, P: Wri
         Arguments::Join {
             first,
             others,
+            saved,
+            quiet,
             view,
-        } => join_named(
-            alloc,
-            system,
-            first,
-            others.as_slice(),
-            view,
-            output,
-            errors,
-        ),
+        } => {
+            let others = others.as_slice();
+            match saved {
+                None => join_named(alloc, system, first, others, view, output, errors),
+                Some(path) if quiet => merge_named(alloc, system, first, others, path, errors),
+                Some(path) => join_saved(alloc, system, first, others, path, view, output, errors),
+            }
+        }
         Arguments::Run {
             world,
             saved,

@@ -4,11 +4,11 @@ ghost use Rattle.zmeta_commands.specs.Finished.{failure_line, told_line, told_at
 ghost use Rattle.std.specs.Option.{option_map};
 ghost use Rattle.zoom.specs.State.TheVariants as states;
 
-use crate::explained::stop_line;
 use bytes::Bytes;
 use std::alloc::{AllocError, Global};
 use zapdu::quote;
 use zknow_stops::Stop;
+use zmeta_devices::explained::stop_line;
 use zoom::{Meta, Reason, State};
 
 /// What is told in words of connections.
@@ -40,8 +40,8 @@ pub fn put_failure(
     text.extend_from_slice(line.as_slice())
 }
 
-/// Appends the line that tells in words why a connection stopped, if that is to be told. Appends nothing if no memory is
-/// found.
+/// Appends the line that tells in words why a connection stopped, if that is to be told. Appends nothing if no memory
+/// is found.
 fn put_told(
     alloc: Global,
     name: &Bytes,
@@ -109,8 +109,8 @@ fn line_of(alloc: Global, name: &Bytes, reason: Reason) -> Result<Vec<u8>, Alloc
     Ok(line)
 }
 
-/// Returns the lines of the failed connections, in order, with the names of their targets. Behind each stands the line that
-/// tells in words why it stopped, if that is to be told.
+/// Returns the lines of the failed connections, in order, with the names of their targets. Behind each stands the line
+/// that tells in words why it stopped, if that is to be told.
 pub fn failure_lines(
     alloc: Global,
     meta: &Meta,

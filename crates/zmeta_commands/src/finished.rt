@@ -1,23 +1,24 @@
 //! The end of a command that asks: prints the list, reports failed connections, and saves the facts.
 
-ghost use Rattle.std.specs.Prelude.{◌≡◌, ◌<◌, ◌^◌, length, IfOk, MatchResult, Ok, Err};
+ghost use Rattle.std.specs.Prelude.{◌<◌, ◌^◌, length, IfOk};
 ghost use Rattle.std.specs.Option.{option_map};
-ghost use Rattle.zmeta_commands.specs.Devices.{outputs};
-ghost use Rattle.zmeta_commands.specs.Finished.{HasNames, IsListed, PutFinishedResult, SavedOctetsResult, MakeFileResult, SaveResult, FinishResult, AfterAsked};
+ghost use Rattle.zmeta_devices.specs.Devices.{outputs};
+ghost use Rattle.zmeta_commands.specs.Finished.{HasNames, IsListed, PutFinishedResult, SaveResult, FinishResult, AfterAsked};
 
 use crate::failures::{Told, failure_lines};
-use crate::fault::{Fault, Status, end, report_failure};
-use crate::files::Folder;
-use crate::output::Output;
 use crate::stops::stops_of;
 use crate::trouble::finished_status;
-use crate::view::print_view;
 use bytes::Bytes;
 use std::alloc::{AllocError, Global};
 use std::io::Write;
-use zknow::{Names, SaveError, save};
+use zknow::Names;
 use zknow_stops::Stop;
 use zmeta_args::View;
+use zmeta_devices::fault::{Fault, Status, end, report_failure};
+use zmeta_devices::files::Folder;
+use zmeta_devices::output::Output;
+use zmeta_offline::saved::save_facts;
+use zmeta_offline::view::print_view;
 use zoom::{Limits, Meta, Notice};
 
 /// The program's name as an origin.
@@ -49,8 +50,8 @@ pub struct Paths<'a> {
 }
 
 impl Finished {
-    /// Returns finished connections, with the list of their facts, and why they stopped. `noticed` is what was noticed of
-    /// the host of each connection.
+    /// Returns finished connections, with the list of their facts, and why they stopped. `noticed` is what was noticed
+    /// of the host of each connection.
     pub(crate) fn new(
         alloc: Global,
         meta: Meta,
@@ -105,37 +106,6 @@ fn put_finished<'o, W: Write, E: Write>(
     Ok(())
 }
 
-/// Returns the octets of the saved file. `Write` with its path if an element passes the limits, else only `Memory`.
-fn saved_octets<'a>(alloc: Global, path: &'a str, finished: &Finished) -> Result<Vec<u8>, Fault<'a>>
-    ensures { MatchResult result (λ octets. SavedOctetsResult path.entry.now finished.now (Ok octets.items))
-        (λ fault. SavedOctetsResult path.entry.now finished.now (Err fault)) }
-{
-    let mut octets = Vec::new(alloc);
-    match save(
-        alloc,
-        finished.meta.knowledge(),
-        &finished.names,
-        &mut octets,
-    ) {
-        Ok(()) => Ok(octets),
-        Err(SaveError::TooDeep) => Err(Fault::Write(path)),
-        Err(SaveError::TooLong) => Err(Fault::Write(path)),
-        Err(SaveError::Memory) => Err(Fault::Memory),
-    }
-}
-
-/// Makes a file at a path that holds these octets. `Write` with the path if that fails.
-///
-/// An older file there is replaced. So the caller has the octets in memory first, and `Memory` empties no file.
-fn make_file<'a, F: Folder>(files: &mut F, path: &'a str, octets: &[u8]) -> Result<(), Fault<'a>>
-    ensures { MakeFileResult (F.made files.old) (F.made files.new) path.entry.now octets.now result }
-{
-    match files.make(path, octets) {
-        Ok(()) => Ok(()),
-        Err(_) => Err(Fault::Write(path)),
-    }
-}
-
 /// Saves the facts if a path is given, in one file that is made there.
 fn save_finished<'a, F: Folder>(
     alloc: Global,
@@ -146,11 +116,16 @@ fn save_finished<'a, F: Folder>(
     ensures { SaveResult finished.now (option_map (λ path. path.now) path.entry)
         (F.made files.old) (F.made files.new) result }
 {
-    let Some(path) = path else {
-        return Ok(());
-    };
-    let octets = saved_octets(alloc, path, finished)?;
-    make_file(files, path, octets.as_slice())
+    match path {
+        None => Ok(()),
+        Some(path) => save_facts(
+            alloc,
+            files,
+            path,
+            finished.meta.knowledge(),
+            &finished.names,
+        ),
+    }
 }
 
 /// Prints the list, reports the failed connections, and then saves the facts if a path is given, whatever became of the

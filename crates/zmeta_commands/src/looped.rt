@@ -2,21 +2,22 @@
 
 ghost use Rattle.std.specs.Prelude.{IfOk, IfErr, IfSome};
 ghost use Rattle.std.specs.Option.{option_map};
-ghost use Rattle.zmeta_commands.specs.Devices.{outputs};
+ghost use Rattle.zmeta_devices.specs.Devices.{outputs};
 ghost use Rattle.zmeta_commands.specs.Finished.{HasNames};
 ghost use Rattle.zmeta_commands.specs.Searches.{search_of};
 ghost use Rattle.zmeta_commands.specs.Loop.{IsOfNetwork, IsOfLoop, IsListedLoop, LoopFileResult, AfterLoop};
 ghost use Rattle.zmeta_world.specs.InMemoryRuns.{CanBeRun};
 
-use crate::fault::{Fault, Status};
-use crate::files::Folder;
 use crate::finished::{Finished, Paths, conclude};
-use crate::output::Output;
 use crate::run::read_in_memory;
+use crate::serve::fault_of;
 use std::alloc::Global;
 use std::io::Write;
 use std::net::Net;
 use zmeta_args::{SearchOptions, View};
+use zmeta_devices::fault::{Fault, Status};
+use zmeta_devices::files::Folder;
+use zmeta_devices::output::Output;
 use zmeta_world::in_memory::InMemoryRun;
 use zoom::{Limits, run_loopback};
 
@@ -79,13 +80,16 @@ fn loop_in_memory<'a, N: Net>(
         names,
         moves: _,
     } = run;
-    let meta = run_loopback(
+    let meta = match run_loopback(
         alloc,
         net,
         questions.into_vec(),
         settings,
         targets.into_vec(),
-    )?;
+    ) {
+        Ok(meta) => meta,
+        Err(error) => return Err(fault_of(error)),
+    };
     let limits = Limits::default();
     Ok(Finished::new(alloc, meta, names, Vec::new(alloc), &[], &limits, view)?)
 }

@@ -5,7 +5,7 @@ ghost use Rattle.std.specs.List.{flat_map, list_any};
 ghost use Rattle.std.specs.Option.{option_map};
 ghost use Rattle.zmeta_args.specs.Texts.{texts_of};
 ghost use Rattle.zmeta_world.specs.Search.{search_texts};
-ghost use Rattle.zmeta_commands.specs.Searches.{escaped, is_blank, is_blank_term, term_text, terms_under, terms_of, ands, joined_terms, terms_text, terms_query, copied_texts, search_of, terms_shown};
+ghost use Rattle.zmeta_commands.specs.Searches.{escaped, is_blank_term, term_text, terms_under, terms_of, ands, joined_terms, terms_text, terms_query, copied_texts, search_of, terms_shown};
 
 use std::alloc::{AllocError, Global};
 use zmeta_args::SearchOptions;

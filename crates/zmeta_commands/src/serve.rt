@@ -2,19 +2,19 @@
 
 ghost use Rattle.std.specs.Prelude.{◌≡◌, ◌≢◌, [], ◌∷◌, Err, IfErr, IfSome};
 ghost use Rattle.zmeta_world.specs.InMemoryRuns.{IsFit, AreSmall};
-ghost use Rattle.zmeta_commands.specs.Devices.{output_device};
-ghost use Rattle.zmeta_commands.specs.Serve.{service_of, ServedAt, ServeResult, ServeWorldResult, IsUnserved, IsServiceEnd, AfterServe};
+ghost use Rattle.zmeta_devices.specs.Devices.{output_device};
+ghost use Rattle.zmeta_commands.specs.Serve.{service_of, of_serve, ServedAt, ServeResult, ServeWorldResult, IsUnserved, IsServiceEnd, AfterServe};
 
 use crate::doors::Doors;
-use crate::fault::{Fault, Status, end_done};
-use crate::files::{Folder, file_at};
-use crate::output::Output;
 use crate::worlds::world_in;
 use std::alloc::Global;
 use std::io::Write;
 use std::time::Clock;
+use zmeta_devices::fault::{Fault, Status, end_done};
+use zmeta_devices::files::{Folder, file_at};
+use zmeta_devices::output::Output;
 use zmeta_world::world::{NamedTarget, World};
-use zoom::serve;
+use zoom::{ServeError, serve};
 
 /// Which target is served, where, and for how many connections.
 #[derive(Clone, Copy)]
@@ -99,12 +99,25 @@ fn serve_target<'a, S: Doors + Clock>(
     let Ok(door) = system.listen(address) else {
         return Err(Fault::Serve);
     };
-    Ok(serve(
+    match serve(
         alloc,
         system,
         &door,
         &target.databases,
         target.settings,
         count,
-    )?)
+    ) {
+        Ok(()) => Ok(()),
+        Err(error) => Err(fault_of(error)),
+    }
+}
+
+/// Returns the fault for a target that cannot be served.
+pub(crate) fn fault_of(error: ServeError) -> Fault<'static>
+    ensures { result ≡ of_serve error }
+{
+    match error {
+        ServeError::Listen => Fault::Serve,
+        ServeError::Memory => Fault::Memory,
+    }
 }

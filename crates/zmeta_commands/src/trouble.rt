@@ -3,9 +3,9 @@ ghost use Rattle.std.specs.Prelude.{◌≡◌, ◌<◌, ◌^◌, not, ◌||◌, 
 ghost use Rattle.zoom.specs.Metas.{IsTranscriptValue};
 ghost use Rattle.zmeta_commands.specs.Finished.{is_failed, is_troubled, is_asked, IsTroubledAt, HasTrouble, IsStatusOf, IsFinishedStatus};
 
-use crate::fault::Status;
 use crate::finished::Finished;
 use bytes::Bytes;
+use zmeta_devices::fault::Status;
 use zoom::laws::one_transcript;
 use zoom::{Meta, State};
 

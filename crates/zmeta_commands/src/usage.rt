@@ -1,14 +1,14 @@
 //! Help, and why arguments are wrong.
-ghost use Rattle.zmeta_commands.specs.Devices.{output_device, outputs};
+ghost use Rattle.zmeta_devices.specs.Devices.{output_device, outputs};
 ghost use Rattle.zmeta_commands.specs.Arguments.{HelpResult, AfterNotice, AfterUsage};
 
-use crate::fault::{Fault, Status, end_done};
-use crate::output::Output;
 use clap::Error;
 use clap::error::ErrorKind;
 use std::alloc::Global;
 use std::fmt::Display;
 use std::io::Write;
+use zmeta_devices::fault::{Fault, Status, end_done};
+use zmeta_devices::output::Output;
 
 /// Writes `clap`'s text and returns the status. Wrong arguments are reported on `errors`, and help is printed on
 /// `output`.

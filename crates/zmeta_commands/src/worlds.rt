@@ -7,13 +7,13 @@ ghost use Rattle.zmeta_world.specs.Search.{search_texts};
 ghost use Rattle.zmeta_commands.specs.Searches.{search_of};
 ghost use Rattle.zmeta_commands.specs.Worlds.{WorldResult, SearchedResult, told_of};
 
-use crate::fault::Fault;
-use crate::files::{Folder, file_at};
-use crate::input::Input;
 use crate::searches::copy_search;
 use std::alloc::Global;
 use std::io::Read;
 use zmeta_args::SearchOptions;
+use zmeta_devices::fault::Fault;
+use zmeta_devices::files::{Folder, file_at};
+use zmeta_devices::input::Input;
 use zmeta_world::search::Search;
 use zmeta_world::world::{World, read_world};
 

@@ -1,6 +1,6 @@
 -- Files that are made in memory.
 use Rattle.std.proofs.Common.{◌≡◌, ℕ, List, [], ◌∷◌, ◌++◌, Some, take, drop, take-append-drop, sym, inr}
-use Rattle.zmeta_commands.specs.Files.{MadeFile, MakesInPart}
+use Rattle.zmeta_devices.specs.Files.{MadeFile, MakesInPart}
 
 -- a file was made that holds so many of the octets
 pub front_made : (files later : List MadeFile) (path octets : List ℕ) (n : ℕ)

@@ -8,10 +8,10 @@ use zber_rows::rows::{halves, split_row, unescape};
 use zber_rows::unread::Unread;
 use zmeta_commands::commands::run;
 use zmeta_commands::doors::Doors;
-use zmeta_commands::fault::Status;
-use zmeta_commands::files::Folder;
-use zmeta_commands::input::Input;
-use zmeta_commands::output::Output;
+use zmeta_devices::fault::Status;
+use zmeta_devices::files::Folder;
+use zmeta_devices::input::Input;
+use zmeta_devices::output::Output;
 
 /// What a command answered, printed and told.
 #[derive(Drop)]

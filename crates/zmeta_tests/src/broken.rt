@@ -9,9 +9,9 @@ use std::test::Fail;
 use zber_rows::rows::{each_row, halves, pair, unescape};
 use zber_rows::unread::Unread;
 use zmeta_commands::commands::run;
-use zmeta_commands::fault::{Fault, Status};
-use zmeta_commands::input::Input;
-use zmeta_commands::output::Output;
+use zmeta_devices::fault::{Fault, Status};
+use zmeta_devices::input::Input;
+use zmeta_devices::output::Output;
 
 // Each line, the call at which its input, its output or its errors fail, none being 0, and what is told, unless the
 // errors fail.

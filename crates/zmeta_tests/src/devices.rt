@@ -7,7 +7,7 @@ use std::marker::Model;
 use std::net::{Net, SocketAddr, TcpListener, TcpStream};
 use std::time::{Clock, Duration};
 use zmeta_commands::doors::Doors;
-use zmeta_commands::files::Folder;
+use zmeta_devices::files::Folder;
 
 /// A reader of some octets.
 #[derive(Drop)]
@@ -69,7 +69,7 @@ pub(crate) struct Stored {
 
 impl Model for Stored {
     ghost use Rattle.std.specs.Prelude.{string_bytes};
-    ghost use Rattle.zmeta_commands.specs.Files.{MadeFile};
+    ghost use Rattle.zmeta_devices.specs.Files.{MadeFile};
 
     ghost Value = { MadeFile };
 
@@ -121,6 +121,8 @@ impl<'a> Folder for Shelf<'a> {
 
     type File = Broken<'a>;
 
+    type Draft = Vec<u8>;
+
     ghost made = { λ s. Some s.stored.items };
 
     fn open(&self, path: &str) -> io::Result<Broken<'a>> {
@@ -148,6 +150,18 @@ impl<'a> Folder for Shelf<'a> {
             return Err(io::Error::from(ErrorKind::StorageFull));
         }
         self.store(path, contents)
+    }
+
+    fn draft(&self, _path: &str) -> io::Result<Vec<u8>> {
+        Ok(Vec::new(self.alloc))
+    }
+
+    fn keep(&mut self, path: &str, draft: Vec<u8>) -> io::Result<()> {
+        self.make(path, draft.as_slice())
+    }
+
+    fn discard(&self, draft: Vec<u8>) {
+        drop(draft);
     }
 }
 

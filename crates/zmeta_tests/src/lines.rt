@@ -20,6 +20,15 @@ zmeta|ask|hosts => 1 > - > zmeta: target \"b\": Connect%0a
 zmeta|ask|hosts|--at-once => 1 > - > zmeta: target \"b\": Connect%0a
 zmeta|join|broken|count => 3 > - > zmeta: cannot read broken%0a
 zmeta|join|count|broken => 3 > - > zmeta: cannot read broken%0a
+zmeta|join|broken|--save|o => 3 > - > zmeta: cannot read broken%0a
+zmeta|join|--quiet|--save|o|count|broken => 3 > - > zmeta: cannot read broken%0a
+zmeta|join|--quiet|--save|o|count|asked => 3 > - > zmeta: knowledge refused: NotKnowledge at 0%0a
+zmeta|join|--quiet|--save|o|asked|broken => 3 > - > zmeta: knowledge refused: NotKnowledge at 0%0a
+zmeta|join|--quiet|--save|full|count|record => 3 > - > zmeta: cannot write full%0a
+zmeta|join|--quiet|--save|none|count|record => 3 > - > zmeta: cannot write none%0a
+zmeta|join|--quiet|--save|o|record|count|record => 0 > - > -
+zmeta|join|--save|none|count => 3 > target \"a\" set 1 count 4%0a > zmeta: cannot write none%0a
+zmeta|join|count => 0 > target \"a\" set 1 count 4%0a > -
 zmeta|run|broken => 3 > - > zmeta: cannot read broken%0a
 zmeta|run|asked|--save|full => 3 > target \"a\" set 1 count 0%0a > zmeta: cannot write full%0a
 zmeta|run|asked|--save|none => 3 > target \"a\" set 1 count 0%0a > zmeta: cannot write none%0a
@@ -44,6 +53,13 @@ zmeta|run|asked|--save|none => -
 zmeta|run|asked => -
 zmeta|run|broken|--save|out => -
 zmeta|join|count|record => -
+zmeta|join|count|--save|out => out %a4%03%80%01a%a0%09%80%01%00%81%01%01%82%01%04
+zmeta|join|record|count|record|--save|out => out %a4%03%80%01a%a0%09%80%01%00%81%01%01%82%01%04%a2%1e%80%01%00%81%01%01%82%01%010%13%a1%11%a1%0f(%0d%06%07*%86H%ce%13%05%0a%81%02r1
+zmeta|join|--quiet|record|count|record|--save|out => out %a4%03%80%01a%a0%09%80%01%00%81%01%01%82%01%04%a2%1e%80%01%00%81%01%01%82%01%010%13%a1%11%a1%0f(%0d%06%07*%86H%ce%13%05%0a%81%02r1
+zmeta|join|--quiet|count|--save|out => out %a4%03%80%01a%a0%09%80%01%00%81%01%01%82%01%04
+zmeta|join|--quiet|count|record|--save|full => full %a4%03%80
+zmeta|join|--quiet|count|broken|--save|out => -
+zmeta|join|--quiet|count|asked|--save|out => -
 ";
 
 fn is_stored(alloc: Global, stored: &[Stored], due: &str) -> Result<bool, Unread> {

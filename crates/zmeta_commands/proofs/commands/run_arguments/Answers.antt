@@ -1,5 +1,5 @@
 use Rattle.std.proofs.Common.{◌≡◌, ap}
-use Rattle.zmeta_commands.specs.Devices.{input_device, streams}
+use Rattle.zmeta_devices.specs.Devices.{input_device, streams}
 use Rattle.zmeta_commands.specs.Serve.{ServedAt}
 use Rattle.zmeta_commands.proofs.Calling.{after_parsed}
 use Rattle.zmeta_commands.proofs.commands.run_arguments.Goals as goal

@@ -1,6 +1,6 @@
 use Rattle.std.proofs.Common.{◌≡◌, subst, sym}
 use Rattle.std.specs.Option.{IfSome}
-use Rattle.zmeta_commands.specs.Devices.{output_device}
+use Rattle.zmeta_devices.specs.Devices.{output_device}
 use Rattle.zmeta_commands.proofs.Running.{help_put}
 use Rattle.zmeta_commands.proofs.usage.print_help.Goals as goal
 

@@ -1,0 +1,15 @@
+pub mod FrontTheory
+pub mod HeadTheory
+pub mod SourceTheory
+pub mod FaultTheory
+pub mod ReadTheory
+pub mod ChoiceTheory
+pub mod InputTheory
+pub mod StepTheory
+pub mod PassTheory
+pub mod EndTheory
+pub mod BeginTheory
+pub mod StartTheory
+pub mod NextTheory
+pub mod JoinTheory
+pub mod FileTheory

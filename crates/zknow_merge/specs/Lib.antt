@@ -1,0 +1,9 @@
+pub mod Inputs
+pub mod Joins
+pub mod Fronts
+pub mod Heads
+pub mod Sources
+pub mod Refusals
+pub mod Merges
+pub mod Files
+pub mod Laws

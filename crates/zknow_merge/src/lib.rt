@@ -1,0 +1,18 @@
+//! The join of saved files that outgrow memory: the files are read in pieces, and the saved file of all their facts is
+//! handed out in pieces.
+#![tactic(auto)]
+
+mod choice;
+mod front;
+mod head;
+pub mod laws;
+mod merge;
+mod names;
+mod refusal;
+mod source;
+mod step;
+#[cfg(test)]
+mod tests;
+
+pub use merge::Merge;
+pub use step::Step;

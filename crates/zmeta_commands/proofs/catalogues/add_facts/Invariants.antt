@@ -1,7 +1,0 @@
-use Rattle.zmeta_commands.specs.Catalogues.{is_of_chosen}
-use Rattle.zmeta_args.specs.Texts.{texts_of}
-use Rattle.zmeta_commands.proofs.Picking.{ArePicked}
-use Rattle.zmeta_commands.proofs.catalogues.add_facts.Given as goal
-
-abbrev pub invariant-loop-fact : goal.invariant-loop-fact
-invariant-loop-fact l = ArePicked (is_of_chosen (texts_of l.only) l.names) l.facts l.fact-index l.chosen

@@ -1,6 +1,0 @@
-use Rattle.std.proofs.Common.{arith}
-use Rattle.zmeta_commands.proofs.Reading.{value_at}
-use Rattle.zmeta_commands.proofs.digits.digit_value.Goals as goal
-
-pub returns : goal.returns
-returns c = value_at c.args.octet (omega arith)

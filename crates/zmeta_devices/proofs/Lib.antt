@@ -1,0 +1,2 @@
+pub mod DeviceSteps
+mod Telling

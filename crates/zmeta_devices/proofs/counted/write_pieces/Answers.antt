@@ -1,0 +1,12 @@
+use Rattle.std.proofs.Common.{◌≡◌, [], rules, drop_of_length-le}
+use Rattle.zmeta_devices.proofs.DeviceSteps.{put_piece, put_all}
+use Rattle.zmeta_devices.proofs.counted.write_pieces.Goals as goal
+
+pub loop-preserved : goal.loop-preserved
+loop-preserved g c = put_piece _ _ _ _ _ c.in-Some.count c.write_piece.result c.loop.invariant c.write_piece.ensures.bytes c.in-Some.is
+
+pub returns-then-is_empty : goal.returns-then-is_empty
+returns-then-is_empty g c =
+    let rest = c.loop.rest.now in
+    let empty : rest ≡ [] = drop_of_length-le rest {i = 0} (search rules) in
+    put_all _ _ _ rest c.loop.invariant empty

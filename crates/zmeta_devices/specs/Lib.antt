@@ -1,0 +1,7 @@
+pub mod Counted
+pub mod Devices
+pub mod Explained
+pub mod Faults
+pub mod Files
+pub mod Input
+pub mod Pieces

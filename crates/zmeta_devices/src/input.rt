@@ -1,0 +1,130 @@
+//! Streams that are read to their end.
+ghost use Rattle.std.specs.Prelude.{◌≡◌, ◌<◌, ◌≤◌, ◌*◌, ◌⊎◌, IfOk, IfSome, IfErr, OnOk, OnErr, Err, length, take, vec_len, true, false};
+ghost use Rattle.std.specs.Io.KnownBytes.{Keeps, Consumes, IsAtEnd};
+ghost use Rattle.zmeta_devices.specs.Input.{HasLostFront, ReadPieceResult};
+
+use crate::fault::Fault;
+use std::alloc::Global;
+use std::io::Read;
+
+/// The most reads of one stream.
+const READS: u32 = 1_000_000;
+
+/// The most octets of one read.
+const PIECE: usize = 4_096;
+
+/// A stream that is read, and whether a read of it failed.
+#[derive(Drop)]
+pub struct Input<'a, R> {
+    /// The path in the messages about it: a file's path, or `-` for standard input.
+    pub path: &'a str,
+    /// The reader of its octets.
+    pub reader: R,
+    /// Whether a read failed.
+    pub has_failed: bool,
+}
+
+impl<'a, R: Read> Input<'a, R> {
+    /// Returns the stream of a reader. No read of it has failed.
+    pub fn new(path: &'a str, reader: R) -> Input<'a, R>
+        ensures path { result.path ≡ path.entry }
+        ensures reader { result.reader ≡ reader }
+        ensures sound { result.has_failed ≡ false }
+    {
+        Input {
+            path,
+            reader,
+            has_failed: false,
+        }
+    }
+
+    /// Reads all that is left of the stream, in at most 1,000,000 reads of at most 4,096 octets. The last of them
+    /// finds the end.
+    ///
+    /// `Read` with the stream's path if a read fails, or if that many reads find no end. The octets read are lost,
+    /// and `has_failed` is set. `Memory` if no memory is found; `has_failed` is unchanged.
+    ///
+    /// Whatever the result, octets are only taken from the front of the stream.
+    pub fn read_all(&mut self, alloc: Global) -> Result<Vec<u8>, Fault<'a>>
+        // on success
+        ensures whole { IfOk result (λ v. IfSome (R.remaining self.old.reader) (λ xs. v.items ≡ xs)) }
+        ensures end { OnOk result (IsAtEnd (R.remaining self.new.reader)) }
+        ensures short { IfOk result (λ v. vec_len v ≤ 4096 * 1000000) }
+        ensures sound { OnOk result (self.new.has_failed ≡ self.old.has_failed) }
+        // the path, and the faults
+        ensures path { self.new.path ≡ self.old.path }
+        ensures err { IfErr result (λ f. ((f ≡ Fault.Read self.old.path) × (self.new.has_failed ≡ true))
+            ⊎ (f ≡ Fault.Memory)) }
+        // in each case
+        ensures rest { HasLostFront (R.remaining self.old.reader) (R.remaining self.new.reader) }
+        // if no memory is found
+        ensures kept { result ≡ Err Fault.Memory → self.new.has_failed ≡ self.old.has_failed }
+    {
+        let answer = read_pieces(alloc, &mut self.reader, self.path);
+        if matches!(answer, Err(Fault::Read(_))) {
+            self.has_failed = true;
+        }
+        answer
+    }
+
+    /// Reads octets into the front of the piece, and returns how many came: 0 only at the end of the stream, or if the
+    /// piece has no room.
+    ///
+    /// `Read` with the stream's path if the read fails. Nothing was taken then, and `has_failed` is set.
+    pub fn read_some(&mut self, piece: &mut [u8]) -> Result<usize, Fault<'a>>
+        ensures bound { IfOk result (λ count. count ≤ length piece.new) }
+        ensures taken { IfOk result (λ count. Consumes (R.remaining self.old.reader) (R.remaining self.new.reader)
+            (take count piece.new)) }
+        ensures end { IfOk result (λ count. count ≡ 0 → 0 < length piece.old → IsAtEnd (R.remaining self.new.reader)) }
+        ensures err { IfErr result (λ f. (f ≡ Fault.Read self.old.path) × (self.new.has_failed ≡ true)) }
+        ensures kept { OnErr result (Keeps (R.remaining self.old.reader) (R.remaining self.new.reader)) }
+        ensures path { self.new.path ≡ self.old.path }
+        ensures room { length piece.new ≡ length piece.old }
+    {
+        match self.reader.read(piece) {
+            Ok(count) => Ok(count),
+            Err(_) => {
+                self.has_failed = true;
+                Err(Fault::Read(self.path))
+            }
+        }
+    }
+}
+
+/// Reads all that is left of a reader. `Read(path)` if a read fails, or if `READS` reads find no end.
+fn read_pieces<'a, R: Read>(
+    alloc: Global,
+    reader: &mut R,
+    path: &'a str,
+) -> Result<Vec<u8>, Fault<'a>>
+    ensures whole { IfOk result (λ v. IfSome (R.remaining reader.old) (λ xs. v.items ≡ xs)) }
+    ensures end { OnOk result (IsAtEnd (R.remaining reader.new)) }
+    ensures short { IfOk result (λ v. vec_len v ≤ 4096 * 1000000) }
+    ensures rest { HasLostFront (R.remaining reader.old) (R.remaining reader.new) }
+    ensures err { IfErr result (λ f. (f ≡ Fault.Read path.entry) ⊎ (f ≡ Fault.Memory)) }
+{
+    let mut octets = Vec::new(alloc);
+    let mut piece = [0u8; PIECE];
+    for _ in 0..READS {
+        let Some(count) = read_piece(reader, &mut piece) else {
+            return Err(Fault::Read(path));
+        };
+        if count == 0 {
+            return Ok(octets);
+        }
+        octets.extend_from_slice(&piece[..count])?;
+    }
+    Err(Fault::Read(path))
+}
+
+/// Reads a piece of at most 4,096 octets, and returns how many came: 0 only at the end, `None` if the read failed.
+fn read_piece<R: Read>(reader: &mut R, piece: &mut [u8]) -> Option<usize>
+    requires { length piece.old ≡ 4096 }
+    ensures bound { IfSome result (λ count. count ≤ 4096) }
+    ensures bytes { ReadPieceResult (R.remaining reader.old) (R.remaining reader.new) piece.new result }
+{
+    match reader.read(piece) {
+        Ok(count) => Some(count),
+        Err(_) => None,
+    }
+}

@@ -1,0 +1,11 @@
+pub mod Catalogues
+pub mod Digits
+pub mod Join
+pub mod Merged
+pub mod Names
+pub mod Pqf
+pub mod Records
+pub mod Saved
+pub mod Show
+pub mod Steps
+pub mod Views

@@ -1,0 +1,249 @@
+//! The command `join`: the list of the facts of several saved files, and one file of them.
+ghost use Rattle.std.specs.Prelude.{◌≡◌, ◌↔◌, ◌∷◌, [], IsTrue, IfSome, IfErr, Result};
+ghost use Rattle.zmeta_args.specs.Texts.{texts_of};
+ghost use Rattle.zmeta_offline.specs.Join.{IsKnownStatus, LoadFileResult, LoadNamedResult, LoadAllResult, AbsorbNamedResult, AbsorbAllResult, IsOfFile, PutListResult, JoinResult, AfterJoin, ListFactsResult, ListAndSaveResult, AfterJoinSaved};
+ghost use Rattle.zmeta_devices.specs.Devices.{output_device, outputs};
+ghost use Rattle.zmeta_offline.specs.Views.{printed};
+ghost use Rattle.zmeta_devices.specs.declared.fault.Fault.{Fault};
+ghost use Rattle.zmeta_devices.specs.declared.fault.Status.{Status};
+
+use crate::saved::save_facts;
+use crate::view::print_view;
+use std::alloc::Global;
+use std::io::{Read, Write};
+use zknow::{Knowledge, Names, load};
+use zmeta_args::View;
+use zmeta_devices::fault::{Fault, Status, end, report_failure};
+use zmeta_devices::files::{Folder, file_at};
+use zmeta_devices::input::Input;
+use zmeta_devices::output::Output;
+
+/// Prints the list of all facts of the saved files at these paths.
+///
+/// If a file is refused, or has other names than those before it, writes the reason on `errors` and prints
+/// nothing. Each file is read before the next is opened.
+///
+/// Returns `Failed` if the list has a search or an association that failed.
+pub fn join_named<'a, 'o: 'a, F: Folder, W: Write, E: Write>(
+    alloc: Global,
+    files: &'a F,
+    first: &'a str,
+    others: &[&'a str],
+    view: View<'_>,
+    output: &mut Output<'o, W>,
+    errors: &mut Output<'_, E>,
+) -> Status
+    ensures { AfterJoin view.entry (F.octets files.now) (first.entry.now ∷ texts_of others.now)
+        (outputs W.contents E.contents output.old errors.old)
+        (outputs W.contents E.contents output.new errors.new) result }
+{
+    let answer = join_files(alloc, files, first, others, view, output);
+    end(answer, errors)
+}
+
+/// Prints the list, and returns the status.
+fn join_files<'a, 'o: 'a, F: Folder, W: Write>(
+    alloc: Global,
+    files: &'a F,
+    first: &'a str,
+    others: &[&'a str],
+    view: View<'_>,
+    output: &mut Output<'o, W>,
+) -> Result<Status, Fault<'a>>
+    ensures { JoinResult view.entry (F.octets files.now) (first.entry.now ∷ texts_of others.now)
+        (output_device W.contents output.old) (output_device W.contents output.new) result }
+{
+    let known = load_all(alloc, files, first, others)?;
+    let status = known_status(&known.0);
+    let mut text = Vec::new(alloc);
+    let printed = print_view(alloc, &known.0, &known.1, &[], view, &mut text);
+    drop(known);
+    printed?;
+    put_list(output, text.as_slice(), status)
+}
+
+/// Prints the list of all facts of the saved files at these paths, and saves these facts in one file, which is made at the
+/// path `saved`, whatever becomes of the list.
+///
+/// If a file is refused, or has other names than those before it, writes the reason on `errors`; nothing is printed or
+/// saved.
+///
+/// Returns `Failed` if the list has a search or an association that failed.
+pub fn join_saved<'a, 'o: 'a, F: Folder, W: Write, E: Write>(
+    alloc: Global,
+    files: &mut F,
+    first: &'a str,
+    others: &[&'a str],
+    saved: &'a str,
+    view: View<'_>,
+    output: &mut Output<'o, W>,
+    errors: &mut Output<'_, E>,
+) -> Status
+    ensures { AfterJoinSaved view.entry (F.octets files.old) (first.entry.now ∷ texts_of others.now) saved.entry.now
+        (F.made files.old) (F.made files.new) (outputs W.contents E.contents output.old errors.old)
+        (outputs W.contents E.contents output.new errors.new) result }
+{
+    let known = match load_all(alloc, files, first, others) {
+        Ok(known) => known,
+        Err(fault) => return end(Err(fault), errors),
+    };
+    let answer = list_and_save(alloc, files, &known, saved, view, output, errors);
+    drop(known);
+    end(answer, errors)
+}
+
+/// Prints the list of facts, and then saves them, whatever became of the list. Returns the status.
+///
+/// If both fail, reports why the list failed, and returns why the facts were not saved.
+fn list_and_save<'a, 'o: 'a, F: Folder, W: Write, E: Write>(
+    alloc: Global,
+    files: &mut F,
+    known: &(Knowledge, Names),
+    saved: &'a str,
+    view: View<'_>,
+    output: &mut Output<'o, W>,
+    errors: &mut Output<'_, E>,
+) -> Result<Status, Fault<'a>>
+    ensures { ListAndSaveResult known.now.1 known.now.0 view.entry saved.entry.now (F.made files.old) (F.made files.new)
+        (outputs W.contents E.contents output.old errors.old)
+        (outputs W.contents E.contents output.new errors.new) result }
+{
+    let printed = list_facts(alloc, known, view, output);
+    match save_facts(alloc, files, saved, &known.0, &known.1) {
+        Ok(()) => {
+            printed?;
+            Ok(known_status(&known.0))
+        }
+        Err(fault) => {
+            report_failure(printed, errors);
+            Err(fault)
+        }
+    }
+}
+
+/// Prints the list of facts.
+fn list_facts<'o, W: Write>(
+    alloc: Global,
+    known: &(Knowledge, Names),
+    view: View<'_>,
+    output: &mut Output<'o, W>,
+) -> Result<(), Fault<'o>>
+    ensures { ListFactsResult (printed known.now.1 view.entry [] known.now.0) (output_device W.contents output.old)
+        (output_device W.contents output.new) result }
+{
+    let mut text = Vec::new(alloc);
+    print_view(alloc, &known.0, &known.1, &[], view, &mut text)?;
+    output.put(text.as_slice())
+}
+
+/// Writes the list, and returns the status.
+fn put_list<'o, W: Write>(
+    output: &mut Output<'o, W>,
+    text: &[u8],
+    status: Status,
+) -> Result<Status, Fault<'o>>
+    ensures { PutListResult text.now status (output_device W.contents output.old)
+        (output_device W.contents output.new) result }
+{
+    match output.put(text) {
+        Ok(()) => Ok(status),
+        Err(fault) => Err(fault),
+    }
+}
+
+/// Returns the status for these facts: `Failed` if a search or an association failed, else `Done`.
+pub(crate) fn known_status(knowledge: &Knowledge) -> Status
+    ensures { IsKnownStatus knowledge.now result }
+{
+    if knowledge.has_failed() {
+        Status::Failed
+    } else {
+        Status::Done
+    }
+}
+
+/// Returns the facts of all files at these paths.
+pub(crate) fn load_all<'a, F: Folder>(
+    alloc: Global,
+    files: &F,
+    first: &'a str,
+    others: &[&'a str],
+) -> Result<(Knowledge, Names), Fault<'a>>
+    ensures { LoadAllResult (F.octets files.now) (first.entry.now ∷ texts_of others.now) result }
+{
+    let (mut knowledge, names) = load_named(alloc, files, first)?;
+    absorb_all(alloc, files, others, &mut knowledge, &names)?;
+    Ok((knowledge, names))
+}
+
+/// Adds the facts of the files at these paths, each of which must have these names.
+fn absorb_all<'a, F: Folder>(
+    alloc: Global,
+    files: &F,
+    paths: &[&'a str],
+    knowledge: &mut Knowledge,
+    names: &Names,
+) -> Result<(), Fault<'a>>
+    ensures { AbsorbAllResult (F.octets files.now) names.now (texts_of paths.now)
+        knowledge.old knowledge.new result }
+{
+    for path in paths {
+        absorb_named(alloc, files, *path, knowledge, names)?;
+    }
+    Ok(())
+}
+
+/// Adds the facts of the file at a path, which must have these names.
+fn absorb_named<'a, F: Folder>(
+    alloc: Global,
+    files: &F,
+    path: &'a str,
+    knowledge: &mut Knowledge,
+    names: &Names,
+) -> Result<(), Fault<'a>>
+    ensures { AbsorbNamedResult (F.octets files.now) names.now path.entry.now knowledge.old knowledge.new result }
+{
+    let other = load_named(alloc, files, path)?;
+    if !are_same(names, &other.1) {
+        drop(other);
+        return Err(Fault::NamesDiffer);
+    }
+    let absorbed = knowledge.absorb(&other.0);
+    drop(other);
+    absorbed?;
+    knowledge.lawful();
+    Ok(())
+}
+
+/// Returns the facts and names of the file at a path.
+fn load_named<'a, F: Folder>(
+    alloc: Global,
+    files: &F,
+    path: &'a str,
+) -> Result<(Knowledge, Names), Fault<'a>>
+    ensures { LoadNamedResult (F.octets files.now) path.entry.now result }
+{
+    let mut file = file_at(files, path);
+    load_file(alloc, &mut file)
+}
+
+/// Returns the facts and names of one file.
+fn load_file<'a, R: Read>(
+    alloc: Global,
+    file: &mut Input<'a, R>,
+) -> Result<(Knowledge, Names), Fault<'a>>
+    ensures loaded { IfSome (R.remaining file.old.reader) (λ octets. LoadFileResult octets result) }
+    ensures fault { IfErr result (λ f. IsOfFile file.old.path.now f) }
+{
+    let octets = file.read_all(alloc)?;
+    match load(alloc, octets.as_slice()) {
+        Ok(known) => Ok(known),
+        Err(error) => Err(Fault::of_load(file.path, error)),
+    }
+}
+
+fn are_same(names: &Names, others: &Names) -> bool
+    ensures { IsTrue result ↔ (names.now ≡ others.now) }
+{
+    names.as_slice() == others.as_slice()
+}

@@ -1,0 +1,13 @@
+//! The commands that ask nobody: they read a stream, a query or saved files, and print what these say.
+#![tactic(auto)]
+
+mod catalogues;
+mod digits;
+pub mod join;
+pub mod merged;
+pub mod names;
+pub mod pqf;
+pub mod records;
+pub mod saved;
+pub mod show;
+pub mod view;

@@ -1,0 +1,175 @@
+//! The command `records`: the octets of the records of saved files.
+
+ghost use Rattle.std.specs.Prelude.{◌≡◌, ◌++◌, ◌∷◌, IfOk, OnOk, Ok, Err};
+ghost use Rattle.std.specs.Option.{option_map};
+ghost use Rattle.zmeta_devices.specs.Devices.{outputs};
+ghost use Rattle.zknow_records.specs.Records.{records_octets, left_out};
+ghost use Rattle.zmeta_args.specs.Texts.{texts_of};
+ghost use Rattle.zmeta_offline.specs.Records.{SyntaxResult, left_line, left_text, extract, PutRecordsResult, RecordsResult, AfterRecords};
+
+use crate::catalogues::facts_of;
+use crate::join::{known_status, load_all};
+use std::alloc::{AllocError, Global};
+use std::io::Write;
+use zber::{Oid, OidError};
+use zknow::Knowledge;
+use zknow_records::{LeftOut, write_records};
+use zmeta_devices::fault::{Fault, Status, end};
+use zmeta_devices::files::Folder;
+use zmeta_devices::output::Output;
+use zmeta_world::search::dotted_syntax;
+
+/// Which records are written.
+#[derive(Clone, Copy)]
+pub struct Extract<'a, 'w> {
+    /// The names of their catalogues. If there are none, records of all catalogues are written.
+    pub only: &'w [&'a str],
+    /// Their record syntax, as a name or an object identifier in dotted form. If there is none, records of any syntax
+    /// are written.
+    pub syntax: Option<&'a str>,
+    /// Whether all records of a position that has several are written. If not, none of them is.
+    pub conflicts: bool,
+}
+
+/// The paths of saved files.
+#[derive(Clone, Copy)]
+pub struct SavedFiles<'a, 'w> {
+    /// The path of the first.
+    pub first: &'a str,
+    /// The paths of the others, in order.
+    pub others: &'w [&'a str],
+}
+
+/// Writes the octets of the records of saved files, one after the other in the order of the list. Writes on
+/// `errors` how many records were left out.
+///
+/// If a file is refused, the syntax is not an object identifier, or no catalogue has a given name, writes the reason on
+/// `errors` and nothing else.
+///
+/// Returns `Refused` if a file, the syntax or a name is refused, or a stream failed, `errors` too. Else returns
+/// `Failed` if a search or an association of the chosen catalogues failed.
+pub fn records_named<'a, 'o: 'a, F: Folder, W: Write, E: Write>(
+    alloc: Global,
+    files: &'a F,
+    saved: SavedFiles<'a, '_>,
+    wanted: Extract<'a, '_>,
+    output: &mut Output<'o, W>,
+    errors: &mut Output<'_, E>,
+) -> Status
+    ensures { AfterRecords (extract wanted.entry) (F.octets files.now)
+        (saved.entry.first.now ∷ texts_of saved.entry.others.now)
+        (outputs W.contents E.contents output.old errors.old)
+        (outputs W.contents E.contents output.new errors.new) result }
+{
+    let answer = records_files(alloc, files, saved, wanted, output, errors);
+    end(answer, errors)
+}
+
+/// Writes the records, reports what was left out, and returns the status.
+fn records_files<'a, 'o: 'a, F: Folder, W: Write, E: Write>(
+    alloc: Global,
+    files: &'a F,
+    saved: SavedFiles<'a, '_>,
+    wanted: Extract<'a, '_>,
+    output: &mut Output<'o, W>,
+    errors: &mut Output<'_, E>,
+) -> Result<Status, Fault<'a>>
+    ensures { RecordsResult (extract wanted.entry) (F.octets files.now)
+        (saved.entry.first.now ∷ texts_of saved.entry.others.now)
+        (outputs W.contents E.contents output.old errors.old)
+        (outputs W.contents E.contents output.new errors.new) result }
+{
+    let syntax = syntax_of(alloc, wanted.syntax)?;
+    let known = load_all(alloc, files, saved.first, saved.others)?;
+    let chosen = facts_of(alloc, &known.0, &known.1, wanted.only);
+    drop(known);
+    let knowledge = chosen?;
+    let status = known_status(&knowledge);
+    let taken = take_records(alloc, &knowledge, &syntax, wanted.conflicts);
+    drop(knowledge);
+    let (octets, left) = taken?;
+    let lines = left_lines(alloc, &left)?;
+    put_records(octets.as_slice(), lines.as_slice(), output, errors)?;
+    Ok(status)
+}
+
+/// Returns the octets of the records, and the counts of what was left out.
+fn take_records(
+    alloc: Global,
+    knowledge: &Knowledge,
+    syntax: &Option<Oid>,
+    conflicts: bool,
+) -> Result<(Vec<u8>, LeftOut), AllocError>
+    ensures octets { IfOk result (λ taken. taken.0.items ≡ records_octets syntax.now conflicts knowledge.now) }
+    ensures left { IfOk result (λ taken. taken.1 ≡ left_out syntax.now conflicts knowledge.now) }
+{
+    let mut octets = Vec::new(alloc);
+    let left = write_records(alloc, knowledge, syntax.as_ref(), conflicts, &mut octets)?;
+    Ok((octets, left))
+}
+
+/// Returns the object identifier that a text names, or `None` if there is no text.
+fn syntax_of<'a>(alloc: Global, text: Option<&'a str>) -> Result<Option<Oid>, Fault<'a>>
+    ensures { SyntaxResult (option_map (λ text. text.now) text.entry) result }
+{
+    let Some(text) = text else {
+        return Ok(None);
+    };
+    match Oid::parse_dotted(alloc, dotted_syntax(text.as_bytes())) {
+        Ok(oid) => Ok(Some(oid)),
+        Err(e) if e == OidError::Memory => Err(Fault::Memory),
+        Err(_) => Err(Fault::NotOid(text)),
+    }
+}
+
+/// Appends the line for the things of one kind that were left out, if there are any.
+fn put_left(alloc: Global, kind: &str, count: u64, text: &mut Vec<u8>) -> Result<(), AllocError>
+    ensures { OnOk result (text.new.items ≡ text.old.items ++ left_line kind.now count) }
+{
+    if count == 0 {
+        return Ok(());
+    }
+    let number = count.to_string(alloc)?;
+    text.extend_from_slice(b"zmeta: ")?;
+    text.extend_from_slice(kind.as_bytes())?;
+    text.extend_from_slice(b" left out: ")?;
+    text.extend_from_slice(number.as_bytes())?;
+    text.extend_from_slice(b"\n")
+}
+
+/// Returns the lines for what was left out.
+fn left_lines(alloc: Global, left: &LeftOut) -> Result<Vec<u8>, AllocError>
+    ensures { IfOk result (λ text. text.items ≡ left_text left.now) }
+{
+    let mut text = Vec::new(alloc);
+    put_left(
+        alloc,
+        "positions with several records",
+        left.conflicts,
+        &mut text,
+    )?;
+    put_left(alloc, "diagnostics", left.diagnostics, &mut text)?;
+    put_left(alloc, "records of another syntax", left.syntaxes, &mut text)?;
+    put_left(
+        alloc,
+        "structured records (as OPAC and GRS-1)",
+        left.others,
+        &mut text,
+    )?;
+    Ok(text)
+}
+
+/// Writes the octets, and the lines on `errors`.
+fn put_records<'o, W: Write, E: Write>(
+    octets: &[u8],
+    lines: &[u8],
+    output: &mut Output<'o, W>,
+    errors: &mut Output<'_, E>,
+) -> Result<(), Fault<'o>>
+    ensures { PutRecordsResult octets.now lines.now (outputs W.contents E.contents output.old errors.old)
+        (outputs W.contents E.contents output.new errors.new) result }
+{
+    output.put(octets)?;
+    errors.put_lines(lines);
+    Ok(())
+}
