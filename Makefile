@@ -1,7 +1,7 @@
+# make quick         does the demo's job by a build of which nothing is proved: out/zmeta-unproved, in about a minute
+# make test          runs the gate: all proofs, must-fail edits and tests
 # make               proves and builds zmeta, unless that was done with the present sources, and runs the demo:
 #                    two catalogues on this machine, asked over TCP, and one list of what they answer
-# make test          runs the gate: all proofs, must-fail edits and tests
-# make quick         does the demo's job by a build of which nothing is proved, in some minutes
 #
 # make program       proves and builds zmeta, as make does
 # make show          prints the records of an example message
@@ -36,16 +36,15 @@ demo: program
 # As many checks at a time as there are processors, and three at most: each takes 5.5 GB at most, of 24. Left to itself rt ci
 # reserves more, and lets processors idle; and more checks than processors keep the longest chain of them waiting.
 test:
-	RT_JOBS=$(checks) rt ci
+	RT_JOBS=$(checks) scripts/progress rt ci
 	python3 tests/program/check.py
 	python3 tests/out-of-memory/check.py
 	python3 tests/mutants/texts.py
 	python3 tests/program/pages.py
 
 quick:
-	@echo 'quick: this build is not proved; it asks two catalogues over TCP, in one process'
-	cd crates/zmeta && rt try --data libraries.world=../../examples/libraries.world -- loop libraries.world
-	@echo 'quick: nothing was proved'
+	scripts/quick
+	ZMETA=out/zmeta-unproved scripts/demo
 
 # It does nothing if the program was proved and built of the present sources.
 program:
