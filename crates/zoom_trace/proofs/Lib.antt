@@ -1,0 +1,11 @@
+pub mod Finding
+pub mod Tails
+pub mod ReadLines
+pub mod ReadTraces
+pub mod Refusing
+pub mod Reaching
+pub mod Fed
+pub mod Noting
+pub mod JsonLines
+pub mod Replaying
+pub mod Repeating
