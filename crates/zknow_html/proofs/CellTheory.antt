@@ -14,7 +14,7 @@ use Rattle.zhtml.specs.Markup.{element}
 use Rattle.zhtml.specs.Tables.{RowText, class_of}
 use Rattle.zhtml.specs.Texts.{visible}
 use Rattle.zhtml.proofs.TableTheory.{HasText, nothing_has_text, append_has_text, text_has_text, element_has_text, each_has_text, HasCells, element_has_cell, HasRows, append_has_rows, text_has_no_rows, element_has_rows, row_has_row}
-use Rattle.zknow_html.specs.Cells.{only, said, said_with, listed, mark, hidden, header_of, column, row_header, cell, text_cell, list_cell, row_of, row, table_start, body_start, table_end, table}
+use Rattle.zknow_html.specs.Cells.{only, said, said_with, listed, mark, class_if, summary, hidden, header_of, column, row_header, cell, text_cell, list_cell, compared_cell, compared_text, compared_list, row_of, row, table_start, body_start, table_end, table}
 use Rattle.zknow_html.specs.Rows.{mark_text, hidden_text}
 
 -- ---- classes
@@ -66,10 +66,15 @@ mark_has_text octets =
     if_has_text (eqb (length octets) 0) [] (said Strong octets) [] (visible octets) nothing_has_text
     (said_has_text Strong octets)
 
-pub hidden_has_text : (title : List ℕ) (texts : List (List ℕ)) → HasText (hidden title texts) (hidden_text title texts)
-hidden_has_text title texts =
+summary_has_text : (other : Bool) (title : List ℕ) → HasText (summary other title) (visible title)
+unfolding summary
+summary_has_text other title = element_has_text Summary (class_if other) (text_has_text title)
+
+pub hidden_has_text : (other : Bool) (title : List ℕ) (texts : List (List ℕ))
+    → HasText (hidden other title texts) (hidden_text title texts)
+hidden_has_text other title texts =
     if_has_text (eqb (length texts) 0) [] _ [] (visible title ++ flat_map visible texts) nothing_has_text
-    (element_has_text Details [] (append_has_text (said_has_text Summary title) (items_have_text texts)))
+    (element_has_text Details [] (append_has_text (summary_has_text other title) (items_have_text texts)))
 
 -- ---- cells
 
@@ -83,6 +88,21 @@ text_has_cell octets = cell_has_cell (text_has_text octets)
 pub list_has_cell : (texts : List (List ℕ)) → HasCells (list_cell texts) (flat_map visible texts ∷ [])
 unfolding list_cell
 list_has_cell texts = cell_has_cell (listed_has_text texts)
+
+-- a mark is no text
+pub compared_has_cell : (other : Bool) {content t : List ℕ} → HasText content t
+    → HasCells (compared_cell other content) (t ∷ [])
+compared_has_cell other inside = element_has_cell Td (class_if other ++ only Role (codes "cell")) inside
+
+pub compared_text_has_cell : (other : Bool) (octets : List ℕ)
+    → HasCells (compared_text other octets) (visible octets ∷ [])
+unfolding compared_text
+compared_text_has_cell other octets = compared_has_cell other (text_has_text octets)
+
+pub compared_list_has_cell : (other : Bool) (texts : List (List ℕ))
+    → HasCells (compared_list other texts) (flat_map visible texts ∷ [])
+unfolding compared_list
+compared_list_has_cell other texts = compared_has_cell other (listed_has_text texts)
 
 pub row_header_has_cell : (octets : List ℕ) → HasCells (row_header octets) (visible octets ∷ [])
 unfolding row_header

@@ -1,3 +1,4 @@
 pub mod CellTheory
+pub mod DifferenceTheory
 pub mod PageTheory
 pub mod RowTheory

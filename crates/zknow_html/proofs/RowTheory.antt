@@ -3,7 +3,6 @@ use Rattle.std.proofs.Common.{◌≡◌, ℕ, ◌+◌, ℤ, Bool, true, false, c
 use Rattle.std.specs.Prelude.{pos, int_lt, codes, slice_get}
 use Rattle.std.specs.Fmt.{decimal, signed_decimal}
 use Rattle.std.specs.List.{flat_map}
-use Rattle.zapdu.specs.declared.productions.record.Record.{Record}
 use Rattle.zhtml.specs.declared.elements.Element.TheVariants.{Meter}
 use Rattle.zhtml.specs.Tables.{RowText}
 use Rattle.zhtml.specs.Texts.{visible}
@@ -14,16 +13,16 @@ use Rattle.zknow.specs.declared.tables.keys.SetKey.{SetKey}
 use Rattle.zknow.specs.Known.{counts_at, records_at, is_failed_at, diags_at}
 use Rattle.zknow_stops.specs.declared.stop.Stop.{Stop}
 use Rattle.zknow_titles.specs.Blocks.{shown_count}
-use Rattle.zknow_titles.specs.Entries.{EntryText, entry_with, opac_of, copies_of}
 use Rattle.zknow_titles.specs.Heads.{stop_words}
 use Rattle.zknow_titles.specs.Names.{name_or_number, label}
 use Rattle.zknow_titles.specs.Titles.{sets_of, rows_of}
-use Rattle.zknow_titles.specs.Wholes.{lines_with}
+use Rattle.zknow_html.specs.declared.differences.Differences.{Differences}
 use Rattle.zknow_html.specs.Catalogues.{found_text, refused_count, missing_text, share_text, meter, share, share_cell, reasons, number_cells, known_row, set_row, empty_cells, stop_row, stop_rows, stops_from, count_columns, catalogue_columns, catalogue_table}
-use Rattle.zknow_html.specs.Fields.{FieldTexts, fields_with, title_or}
-use Rattle.zknow_html.specs.Records.{name_cell, title_cell, entry_cells, record_row, one_of, records_rows, position_rows, place_columns, field_columns, record_columns, record_table}
-use Rattle.zknow_html.specs.Rows.{share_words, number_texts, known_text, set_text, stop_text, stop_texts, stop_texts_from, mark_text, hidden_text, entry_texts, record_text, records_texts, position_texts, catalogue_texts}
-use Rattle.zknow_html.proofs.CellTheory.{catalogue_is_visible, stopped_is_visible, record_is_visible, differs_is_visible, mark_has_text, hidden_has_text, cell_has_cell, text_has_cell, list_has_cell, row_header_has_cell, row_has, column_has_no_rows, table_has_rows}
+use Rattle.zknow_html.specs.Descriptions.{description_of}
+use Rattle.zknow_html.specs.Differences.{DescriptionTexts, no_differences, differences}
+use Rattle.zknow_html.specs.Records.{name_cell, title_cell, description_cells, record_row, one_of, differing_rows, described_rows, position_rows, place_columns, field_columns, record_columns, record_table}
+use Rattle.zknow_html.specs.Rows.{share_words, number_texts, known_text, set_text, stop_text, stop_texts, stop_texts_from, mark_text, hidden_text, description_texts, record_text, differing_texts, described_texts, position_texts, catalogue_texts}
+use Rattle.zknow_html.proofs.CellTheory.{catalogue_is_visible, stopped_is_visible, record_is_visible, differs_is_visible, mark_has_text, hidden_has_text, cell_has_cell, text_has_cell, list_has_cell, compared_has_cell, compared_text_has_cell, compared_list_has_cell, row_header_has_cell, row_has, column_has_no_rows, table_has_rows}
 
 -- ---- one row each
 
@@ -120,41 +119,48 @@ name_has_cell : (name marked : List ℕ) → HasCells (name_cell name marked) ((
 unfolding name_cell
 name_has_cell name marked = cell_has_cell (append_has_text (text_has_text name) (mark_has_text marked))
 
-title_has_cell : (title : List ℕ) (lines : List (List ℕ))
-    → HasCells (title_cell title lines) ((visible title ++ hidden_text (codes "Fields") lines) ∷ [])
+title_has_cell : (other other_lines : Bool) (title : List ℕ) (lines : List (List ℕ))
+    → HasCells (title_cell other other_lines title lines) ((visible title ++ hidden_text (codes "Fields") lines) ∷ [])
 unfolding title_cell
-title_has_cell title lines =
-    cell_has_cell (append_has_text (text_has_text title) (hidden_has_text (codes "Fields") lines))
+title_has_cell other other_lines title lines =
+    compared_has_cell other
+    (append_has_text (text_has_text title) (hidden_has_text other_lines (codes "Fields") lines))
 
-entry_has_cells : (e : EntryText) (fields : FieldTexts) (lines copies : List (List ℕ))
-    → HasCells (entry_cells e fields lines copies) (entry_texts e fields lines copies)
-unfolding entry_cells
-entry_has_cells e fields lines copies =
-    append_has_cells (append_has_cells (append_has_cells (append_has_cells (text_has_cell e.year)
-    (title_has_cell (title_or fields.title e.line) lines)) (text_has_cell fields.author)) (text_has_cell fields.isbn))
-    (list_has_cell copies)
+description_has_cells : (parts : Differences) (d : DescriptionTexts)
+    → HasCells (description_cells parts d) (description_texts d)
+unfolding description_cells
+description_has_cells parts d =
+    append_has_cells (append_has_cells (append_has_cells (append_has_cells (compared_text_has_cell parts.year d.year)
+    (title_has_cell parts.title parts.lines d.title d.lines)) (compared_text_has_cell parts.author d.author))
+    (compared_text_has_cell parts.isbn d.isbn)) (compared_list_has_cell parts.copies d.copies)
 
-record_has_row : (class marked : List ℕ) → visible class ≡ class → (shown : List (List ℕ)) (k : RowKey) (r : Record)
-    → HasRows (record_row class marked shown k r) (record_text class marked shown k r ∷ [])
+record_has_row : (class marked : List ℕ) (parts : Differences) → visible class ≡ class → (shown : List (List ℕ))
+    (k : RowKey) (d : DescriptionTexts)
+    → HasRows (record_row class marked parts shown k d) (record_text class marked shown k d ∷ [])
 unfolding record_row
-record_has_row class marked same shown k r =
+record_has_row class marked parts same shown k d =
     row_has class same (append_has_cells (append_has_cells (text_has_cell (signed_decimal k.position))
-    (name_has_cell (label shown k.target k.set) marked))
-    (entry_has_cells (entry_with r (opac_of r)) (fields_with r.body (opac_of r)) (lines_with r (opac_of r))
-    (copies_of (opac_of r))))
+    (name_has_cell (label shown k.target k.set) marked)) (description_has_cells parts d))
 
-records_have_rows : (shown : List (List ℕ)) (k : RowKey) (rs : List Record)
-    → HasRows (records_rows shown k rs) (records_texts shown k rs)
-records_have_rows shown k [] = nothing_has_rows
-records_have_rows shown k (r ∷ []) = record_has_row (codes "record") [] record_is_visible shown k r
-records_have_rows shown k (r ∷ q ∷ rest) =
-    map_has_rows (record_row (codes "differs") (one_of (length (r ∷ q ∷ rest))) shown k)
-    (record_text (codes "differs") (one_of (length (r ∷ q ∷ rest))) shown k)
-    (record_has_row (codes "differs") (one_of (length (r ∷ q ∷ rest))) differs_is_visible shown k) (r ∷ q ∷ rest)
+differing_have_rows : (shown : List (List ℕ)) (k : RowKey) (parts : Differences) (ds : List DescriptionTexts)
+    → HasRows (differing_rows shown k parts ds) (differing_texts shown k parts ds)
+differing_have_rows shown k parts ds =
+    map_has_rows (record_row (codes "differs") (one_of (length ds) parts) parts shown k)
+    (record_text (codes "differs") (one_of (length ds) parts) shown k)
+    (record_has_row (codes "differs") (one_of (length ds) parts) parts differs_is_visible shown k) ds
+
+described_have_rows : (shown : List (List ℕ)) (k : RowKey) (ds : List DescriptionTexts)
+    → HasRows (described_rows shown k ds) (described_texts shown k ds)
+described_have_rows shown k [] = nothing_has_rows
+described_have_rows shown k (d ∷ []) =
+    record_has_row (codes "record") [] no_differences record_is_visible shown k d
+described_have_rows shown k (d ∷ e ∷ rest) =
+    differing_have_rows shown k (differences d (e ∷ rest)) (d ∷ e ∷ rest)
 
 position_has_rows : (shown : List (List ℕ)) (facts : List Fact) (k : RowKey)
     → HasRows (position_rows shown facts k) (position_texts shown facts k)
-position_has_rows shown facts k = records_have_rows shown k (records_at k.target k.set k.position facts)
+position_has_rows shown facts k =
+    described_have_rows shown k (map description_of (records_at k.target k.set k.position facts))
 
 record_columns_have_no_rows : HasRows record_columns []
 unfolding record_columns place_columns field_columns

@@ -1,6 +1,6 @@
 -- Cells of tables, and other elements that have a text alone. Each part of a table says what it is by its role too: a
 -- style that shows cells one below the other would take that from it.
-use Rattle.std.specs.Prelude.{ℕ, ◌==◌, if◌then◌else◌, List, [], ◌∷◌, ◌++◌, codes, length}
+use Rattle.std.specs.Prelude.{ℕ, ◌==◌, Bool, if◌then◌else◌, List, [], ◌∷◌, ◌++◌, codes, length}
 use Rattle.std.specs.List.{flat_map}
 use Rattle.zhtml.specs.declared.attributes.AttributeName.{AttributeName}
 use Rattle.zhtml.specs.declared.attributes.AttributeName.TheVariants.{Class, Role, Scope}
@@ -31,11 +31,21 @@ listed texts = if length texts == 0 then [] else element Ul [] (flat_map (said L
 abbrev pub mark : List ℕ → List ℕ
 mark octets = if length octets == 0 then [] else said Strong octets
 
+-- ---- what differs
+
+-- the class of what differs, before other attributes
+abbrev pub class_if : Bool → List Pair
+class_if other = if other then only Class (codes "other") else []
+
+-- the title of texts that a reader opens, marked if they differ
+unfoldable pub summary : Bool → List ℕ → List ℕ
+summary other title = element Summary (class_if other) (text title)
+
 -- texts that are seen if a reader opens them, nothing if there is none
-abbrev pub hidden : List ℕ → List (List ℕ) → List ℕ
-hidden title texts =
+abbrev pub hidden : Bool → List ℕ → List (List ℕ) → List ℕ
+hidden other title texts =
     if length texts == 0 then []
-    else element Details [] (said Summary title ++ element Ul [] (flat_map (said Li) texts))
+    else element Details [] (summary other title ++ element Ul [] (flat_map (said Li) texts))
 
 -- ---- headers (WAI-ARIA, 5.3.2)
 
@@ -64,6 +74,18 @@ text_cell octets = cell (text octets)
 -- a cell with a list of texts
 unfoldable pub list_cell : List (List ℕ) → List ℕ
 list_cell texts = cell (listed texts)
+
+-- a cell, marked if what it shows differs
+abbrev pub compared_cell : Bool → List ℕ → List ℕ
+compared_cell other content = element Td (class_if other ++ only Role (codes "cell")) content
+
+-- such a cell with a text
+unfoldable pub compared_text : Bool → List ℕ → List ℕ
+compared_text other octets = compared_cell other (text octets)
+
+-- such a cell with a list of texts
+unfoldable pub compared_list : Bool → List (List ℕ) → List ℕ
+compared_list other texts = compared_cell other (listed texts)
 
 -- ---- rows and tables
 

@@ -1,5 +1,7 @@
 pub mod Catalogues
 pub mod Cells
+pub mod Descriptions
+pub mod Differences
 pub mod Fields
 pub mod Laws
 pub mod Page

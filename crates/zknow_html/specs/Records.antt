@@ -1,18 +1,17 @@
 -- The table of records: position, catalogue, year, title with all fields behind it, author, ISBN, copies.
-use Rattle.std.specs.Prelude.{ℕ, Option, List, [], ◌∷◌, ◌++◌, codes, length}
+use Rattle.std.specs.Prelude.{ℕ, Bool, List, [], ◌∷◌, ◌++◌, codes, length, map}
 use Rattle.std.specs.Fmt.{decimal, signed_decimal}
 use Rattle.std.specs.List.{flat_map}
-use Rattle.zapdu.specs.declared.productions.record.Record.{Record}
 use Rattle.zknow.specs.declared.fact.Fact.{Fact}
 use Rattle.zknow.specs.declared.tables.keys.RowKey.{RowKey}
 use Rattle.zknow.specs.Known.{records_at}
-use Rattle.zopac.specs.declared.opac.OpacRecord.{OpacRecord}
-use Rattle.zknow_titles.specs.Entries.{EntryText, entry_with, opac_of, copies_of}
+use Rattle.zknow_titles.specs.Blocks.{behind_colon}
 use Rattle.zknow_titles.specs.Names.{label}
-use Rattle.zknow_titles.specs.Wholes.{lines_with}
 use Rattle.zhtml.specs.Texts.{text}
-use Rattle.zknow_html.specs.Cells.{column, cell, text_cell, list_cell, mark, hidden, row, table}
-use Rattle.zknow_html.specs.Fields.{FieldTexts, fields_with, title_or}
+use Rattle.zknow_html.specs.declared.differences.Differences.{Differences}
+use Rattle.zknow_html.specs.Cells.{column, cell, text_cell, compared_cell, compared_text, compared_list, mark, hidden, row, table}
+use Rattle.zknow_html.specs.Descriptions.{description_of}
+use Rattle.zknow_html.specs.Differences.{DescriptionTexts, no_differences, differences, difference_names}
 
 -- ---- one record
 
@@ -20,42 +19,45 @@ use Rattle.zknow_html.specs.Fields.{FieldTexts, fields_with, title_or}
 unfoldable pub name_cell : List ℕ → List ℕ → List ℕ
 name_cell name marked = cell (text name ++ mark marked)
 
--- the cell of a title, with the lines of all fields behind it
-unfoldable pub title_cell : List ℕ → List (List ℕ) → List ℕ
-title_cell title lines = cell (text title ++ hidden (codes "Fields") lines)
+-- the cell of a title, with the lines of all fields behind it; both are marked by themselves
+unfoldable pub title_cell : Bool → Bool → List ℕ → List (List ℕ) → List ℕ
+title_cell other other_lines title lines =
+    compared_cell other (text title ++ hidden other_lines (codes "Fields") lines)
 
--- the cells of what is shown of a record
-unfoldable pub entry_cells : EntryText → FieldTexts → List (List ℕ) → List (List ℕ) → List ℕ
-entry_cells e fields lines copies =
-    text_cell e.year ++ title_cell (title_or fields.title e.line) lines ++ text_cell fields.author
-    ++ text_cell fields.isbn ++ list_cell copies
+-- the cells of what is shown of a record: each that differs is marked
+unfoldable pub description_cells : Differences → DescriptionTexts → List ℕ
+description_cells parts d =
+    compared_text parts.year d.year ++ title_cell parts.title parts.lines d.title d.lines
+    ++ compared_text parts.author d.author ++ compared_text parts.isbn d.isbn ++ compared_list parts.copies d.copies
 
--- those of a record, which is one with its copies or none; its lines are those of the view of whole records
-abbrev pub record_cells : Record → Option OpacRecord → List ℕ
-record_cells r o = entry_cells (entry_with r o) (fields_with r.body o) (lines_with r o) (copies_of o)
-
--- the row of a record: of a class, with a mark
-unfoldable pub record_row : List ℕ → List ℕ → List (List ℕ) → RowKey → Record → List ℕ
-record_row class marked shown k r =
+-- the row of a record: of a class, with a mark, and with what differs
+unfoldable pub record_row : List ℕ → List ℕ → Differences → List (List ℕ) → RowKey → DescriptionTexts → List ℕ
+record_row class marked parts shown k d =
     row class (text_cell (signed_decimal k.position) ++ name_cell (label shown k.target k.set) marked
-    ++ record_cells r (opac_of r))
+    ++ description_cells parts d)
 
 -- ---- the records at a position
 
--- what marks each of several different records
-abbrev pub one_of : ℕ → List ℕ
-one_of count = codes "one of " ++ decimal count ++ codes " different records"
+-- what marks each of several different records: how many there are, and what differs in what is shown of them
+abbrev pub one_of : ℕ → Differences → List ℕ
+one_of count parts =
+    codes "one of " ++ decimal count ++ codes " different records" ++ behind_colon (difference_names parts)
+
+-- a row for each of several records, with its mark
+abbrev pub differing_rows : List (List ℕ) → RowKey → Differences → List DescriptionTexts → List ℕ
+differing_rows shown k parts ds =
+    flat_map (record_row (codes "differs") (one_of (length ds) parts) parts shown k) ds
 
 -- a row for each record; of several each has a mark
-abbrev pub records_rows : List (List ℕ) → RowKey → List Record → List ℕ
-records_rows shown k [] = []
-records_rows shown k (r ∷ []) = record_row (codes "record") [] shown k r
-records_rows shown k (r ∷ q ∷ rest) =
-    flat_map (record_row (codes "differs") (one_of (length (r ∷ q ∷ rest))) shown k) (r ∷ q ∷ rest)
+abbrev pub described_rows : List (List ℕ) → RowKey → List DescriptionTexts → List ℕ
+described_rows shown k [] = []
+described_rows shown k (d ∷ []) = record_row (codes "record") [] no_differences shown k d
+described_rows shown k (d ∷ e ∷ rest) = differing_rows shown k (differences d (e ∷ rest)) (d ∷ e ∷ rest)
 
 -- the rows of a position of a set
 abbrev pub position_rows : List (List ℕ) → List Fact → RowKey → List ℕ
-position_rows shown facts k = records_rows shown k (records_at k.target k.set k.position facts)
+position_rows shown facts k =
+    described_rows shown k (map description_of (records_at k.target k.set k.position facts))
 
 -- ---- the table
 

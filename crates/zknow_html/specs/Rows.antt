@@ -3,7 +3,6 @@ use Rattle.std.specs.Prelude.{ℕ, ◌+◌, ◌==◌, ℤ, pos, int_lt, if◌the
 use Rattle.std.specs.Prelude.{codes, length, map, slice_get}
 use Rattle.std.specs.Fmt.{decimal, signed_decimal}
 use Rattle.std.specs.List.{flat_map}
-use Rattle.zapdu.specs.declared.productions.record.Record.{Record}
 use Rattle.zhtml.specs.Tables.{RowText}
 use Rattle.zhtml.specs.Texts.{visible}
 use Rattle.zknow.specs.declared.fact.Fact.{Fact}
@@ -12,14 +11,13 @@ use Rattle.zknow.specs.declared.tables.keys.SetKey.{SetKey}
 use Rattle.zknow.specs.Known.{counts_at, records_at, is_failed_at, diags_at}
 use Rattle.zknow_stops.specs.declared.stop.Stop.{Stop}
 use Rattle.zknow_titles.specs.Blocks.{shown_count}
-use Rattle.zknow_titles.specs.Entries.{EntryText, entry_with, opac_of, copies_of}
 use Rattle.zknow_titles.specs.Heads.{stop_words}
 use Rattle.zknow_titles.specs.Names.{name_or_number, label}
 use Rattle.zknow_titles.specs.Titles.{sets_of, rows_of}
-use Rattle.zknow_titles.specs.Wholes.{lines_with}
-use Rattle.zopac.specs.declared.opac.OpacRecord.{OpacRecord}
+use Rattle.zknow_html.specs.declared.differences.Differences.{Differences}
 use Rattle.zknow_html.specs.Catalogues.{found_text, refused_count, missing_text, share_text, reasons}
-use Rattle.zknow_html.specs.Fields.{FieldTexts, fields_with, title_or}
+use Rattle.zknow_html.specs.Descriptions.{description_of}
+use Rattle.zknow_html.specs.Differences.{DescriptionTexts, differences}
 use Rattle.zknow_html.specs.Records.{one_of}
 
 -- ---- catalogues
@@ -77,33 +75,33 @@ abbrev pub hidden_text : List ℕ → List (List ℕ) → List ℕ
 hidden_text title texts = if length texts == 0 then [] else visible title ++ flat_map visible texts
 
 -- the texts of what is shown of a record
-abbrev pub entry_texts : EntryText → FieldTexts → List (List ℕ) → List (List ℕ) → List (List ℕ)
-entry_texts e fields lines copies =
-    visible e.year ∷ (visible (title_or fields.title e.line) ++ hidden_text (codes "Fields") lines)
-    ∷ visible fields.author ∷ visible fields.isbn ∷ flat_map visible copies ∷ []
-
--- those of a record, which is one with its copies or none
-abbrev pub record_texts : Record → Option OpacRecord → List (List ℕ)
-record_texts r o = entry_texts (entry_with r o) (fields_with r.body o) (lines_with r o) (copies_of o)
+abbrev pub description_texts : DescriptionTexts → List (List ℕ)
+description_texts d =
+    visible d.year ∷ (visible d.title ++ hidden_text (codes "Fields") d.lines) ∷ visible d.author ∷ visible d.isbn
+    ∷ flat_map visible d.copies ∷ []
 
 -- a record: of a class, with a mark
-abbrev pub record_text : List ℕ → List ℕ → List (List ℕ) → RowKey → Record → RowText
-record_text class marked shown k r = (
+abbrev pub record_text : List ℕ → List ℕ → List (List ℕ) → RowKey → DescriptionTexts → RowText
+record_text class marked shown k d = (
   class,
   visible (signed_decimal k.position) ∷ (visible (label shown k.target k.set) ++ mark_text marked)
-      ∷ record_texts r (opac_of r),
+      ∷ description_texts d,
 )
 
--- each record at a position; of several each has a mark
-abbrev pub records_texts : List (List ℕ) → RowKey → List Record → List RowText
-records_texts shown k [] = []
-records_texts shown k (r ∷ []) = record_text (codes "record") [] shown k r ∷ []
-records_texts shown k (r ∷ q ∷ rest) =
-    map (record_text (codes "differs") (one_of (length (r ∷ q ∷ rest))) shown k) (r ∷ q ∷ rest)
+-- each of several records, with its mark
+abbrev pub differing_texts : List (List ℕ) → RowKey → Differences → List DescriptionTexts → List RowText
+differing_texts shown k parts ds = map (record_text (codes "differs") (one_of (length ds) parts) shown k) ds
+
+-- Each record. Of several each has a mark, which says how many there are, and which of their texts are not all alike.
+abbrev pub described_texts : List (List ℕ) → RowKey → List DescriptionTexts → List RowText
+described_texts shown k [] = []
+described_texts shown k (d ∷ []) = record_text (codes "record") [] shown k d ∷ []
+described_texts shown k (d ∷ e ∷ rest) = differing_texts shown k (differences d (e ∷ rest)) (d ∷ e ∷ rest)
 
 -- the records at a position of a set
 abbrev pub position_texts : List (List ℕ) → List Fact → RowKey → List RowText
-position_texts shown facts k = records_texts shown k (records_at k.target k.set k.position facts)
+position_texts shown facts k =
+    described_texts shown k (map description_of (records_at k.target k.set k.position facts))
 
 -- ---- the page
 

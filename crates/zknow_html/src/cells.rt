@@ -4,7 +4,7 @@ ghost use Rattle.std.specs.List.{flat_map};
 ghost use Rattle.zhtml.specs.declared.attributes.AttributeName.TheVariants.{Role};
 ghost use Rattle.zhtml.specs.declared.elements.Element.TheVariants.{Tr, Th, Td, Li};
 ghost use Rattle.zhtml.specs.Markup.{start_tag, void_element, attribute_of};
-ghost use Rattle.zknow_html.specs.Cells.{only, said, said_with, header_of, column, row_header, text_cell, listed, list_cell, mark, hidden, row_of, table_start, body_start, table_end};
+ghost use Rattle.zknow_html.specs.Cells.{only, said, said_with, header_of, column, row_header, text_cell, listed, list_cell, mark, class_if, compared_text, compared_list, summary, hidden, row_of, table_start, body_start, table_end};
 
 use std::alloc::{AllocError, Global};
 use zhtml::{
@@ -210,21 +210,96 @@ pub(crate) fn put_mark(alloc: Global, text: &str, out: &mut String) -> Result<()
     put_said(alloc, Element::Strong, text.as_bytes(), out)
 }
 
-/// Appends texts that are seen if a reader opens them, nothing if there is none.
+/// Appends the start tag of a cell, marked if what it shows differs.
+pub(crate) fn put_compared_start(
+    alloc: Global,
+    other: bool,
+    out: &mut String,
+) -> Result<(), AllocError>
+    ensures { OnOk result (string_bytes out.new
+        ≡ string_bytes out.old ++ start_tag Td (class_if other ++ only Role (codes "cell"))) }
+{
+    if !other {
+        return put_cell_start(alloc, out);
+    }
+    let attributes = [
+        Attribute {
+            name: AttributeName::Class,
+            value: b"other",
+        },
+        Attribute {
+            name: AttributeName::Role,
+            value: b"cell",
+        },
+    ];
+    put_start(alloc, Element::Td, &attributes, out)
+}
+
+/// Appends a cell with a text, marked if this differs.
+#[tactic(auto, unfolding(crate::specs::Cells::compared_text))]
+pub(crate) fn put_compared_text(
+    alloc: Global,
+    other: bool,
+    octets: &str,
+    out: &mut String,
+) -> Result<(), AllocError>
+    ensures { OnOk result (string_bytes out.new ≡ string_bytes out.old ++ compared_text other octets.now) }
+{
+    put_compared_start(alloc, other, out)?;
+    put_text(alloc, octets.as_bytes(), out)?;
+    put_end(Element::Td, out)
+}
+
+/// Appends a cell with a list of texts, marked if these differ.
+#[tactic(auto, unfolding(crate::specs::Cells::compared_list))]
+pub(crate) fn put_compared_list(
+    alloc: Global,
+    other: bool,
+    texts: &[String],
+    out: &mut String,
+) -> Result<(), AllocError>
+    ensures { OnOk result (string_bytes out.new
+        ≡ string_bytes out.old ++ compared_list other (map string_bytes texts.now)) }
+{
+    put_compared_start(alloc, other, out)?;
+    put_listed(alloc, texts, out)?;
+    put_end(Element::Td, out)
+}
+
+/// Appends the title of texts that a reader opens, marked if they differ.
+#[tactic(auto, unfolding(crate::specs::Cells::summary, crate::specs::Cells::said, crate::specs::Cells::said_with))]
+fn put_summary(alloc: Global, other: bool, title: &str, out: &mut String) -> Result<(), AllocError>
+    ensures { OnOk result (string_bytes out.new ≡ string_bytes out.old ++ summary other title.now) }
+{
+    if !other {
+        return put_said(alloc, Element::Summary, title.as_bytes(), out);
+    }
+    put_said_with(
+        alloc,
+        Element::Summary,
+        AttributeName::Class,
+        "other",
+        title.as_bytes(),
+        out,
+    )
+}
+
+/// Appends texts that are seen if a reader opens them, nothing if there is none; their title is marked if they differ.
 pub(crate) fn put_hidden(
     alloc: Global,
+    other: bool,
     title: &str,
     texts: &[String],
     out: &mut String,
 ) -> Result<(), AllocError>
     ensures { OnOk result (string_bytes out.new
-        ≡ string_bytes out.old ++ hidden title.now (map string_bytes texts.now)) }
+        ≡ string_bytes out.old ++ hidden other title.now (map string_bytes texts.now)) }
 {
     if texts.is_empty() {
         return Ok(());
     }
     put_bare(alloc, Element::Details, out)?;
-    put_said(alloc, Element::Summary, title.as_bytes(), out)?;
+    put_summary(alloc, other, title, out)?;
     put_bare(alloc, Element::Ul, out)?;
     put_items(alloc, texts, out)?;
     put_end(Element::Ul, out)?;

@@ -1,7 +1,7 @@
 //! The title, the author and the ISBN of a record.
 ghost use Rattle.std.specs.Prelude.{◌≡◌, [], unwrap_or, IfOk, string_bytes};
 ghost use Rattle.zmarc.specs.Fields.{title_text, author_text, isbn_text};
-ghost use Rattle.zknow_html.specs.Fields.{fields_of, no_fields, marc_fields, format_fields, content_fields, body_fields, bibliographic_fields, fields_with, title_or};
+ghost use Rattle.zknow_html.specs.Fields.{fields_of, no_fields, marc_fields, format_fields, content_fields, body_fields, bibliographic_fields, fields_with};
 
 use std::alloc::{AllocError, Global};
 use zapdu::{Content, External, RecordBody};
@@ -120,11 +120,4 @@ pub(crate) fn fields_with(
         None => body_fields(alloc, body),
         Some(found) => bibliographic_fields(alloc, &found.bibliographic),
     }
-}
-
-/// Returns the title, or the line of the record if it has none.
-pub(crate) fn title_or<'a>(title: &'a str, line: &'a str) -> &'a str
-    ensures { result.now ≡ title_or title.now line.now }
-{
-    if title.is_empty() { line } else { title }
 }

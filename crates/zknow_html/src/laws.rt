@@ -8,7 +8,8 @@ pub fn page_law()
 
 /// Read back, the page has the rows that are due, in order and each once: a row for each set that has a line in the
 /// view of `zknow_titles`, one for each catalogue that stopped, and one for each record of the rows of that view. Each
-/// cell shows what it is due.
+/// cell shows what it is due; behind the catalogue's name each of several different records at a position says what
+/// differs.
 pub fn rows_law()
     ensures { RowsLaw }
 {}

@@ -5,6 +5,8 @@
 
 mod catalogues;
 mod cells;
+mod descriptions;
+mod differences;
 mod fields;
 pub mod laws;
 mod page;

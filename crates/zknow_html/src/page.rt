@@ -247,7 +247,8 @@ fn view(
 /// are missing, a bar of the share that is shown, and why any are missing; then a row for each target whose connection
 /// stopped. A table of the records follows: a row for each record that is known, by position, target and set. Behind
 /// its title are the lines that `print_fields` of `zknow_titles` has of it; a reader opens them. Each of several
-/// different records at a position has a mark.
+/// different records at a position has a mark, whose words say what not all of them have alike. Each cell that differs
+/// is of the class `other`, and so is the title of those lines if they differ. No cell of a single record is.
 ///
 /// Entry `c` of `stops` says why the connection of target `c` stopped; without an entry it did not. A target has its
 /// name in `names`, else `#` and its number.

@@ -1,22 +1,19 @@
 //! The table of records: position, catalogue, year, title with all fields behind it, author, ISBN, copies.
 ghost use Rattle.std.specs.Prelude.{◌≡◌, ◌++◌, codes, map, IfOk, OnOk, string_bytes};
 ghost use Rattle.std.specs.List.{flat_map};
-ghost use Rattle.zopac.specs.Copies.{holding_line};
-ghost use Rattle.zknow_titles.specs.Entries.{texts, opac_of, copies_of};
-ghost use Rattle.zknow_html.specs.Fields.{fields_of};
-ghost use Rattle.zknow_html.specs.Records.{name_cell, title_cell, entry_cells, record_cells, record_row, one_of, records_rows, position_rows, place_columns, field_columns, record_columns, record_table};
+ghost use Rattle.zknow_titles.specs.Blocks.{behind_colon};
+ghost use Rattle.zknow_html.specs.Records.{name_cell, title_cell, description_cells, record_row, one_of, differing_rows, described_rows, position_rows, place_columns, field_columns, record_columns, record_table};
 
 use crate::cells::{
-    put_body_start, put_cell, put_cell_start, put_column, put_hidden, put_list_cell, put_mark,
-    put_row_start, put_table_end, put_table_start,
+    put_body_start, put_cell, put_cell_start, put_column, put_compared_list, put_compared_start,
+    put_compared_text, put_hidden, put_mark, put_row_start, put_table_end, put_table_start,
 };
-use crate::fields::{Fields, fields_with, title_or};
+use crate::descriptions::describe_each;
+use crate::differences::{Description, Differences, compare, name_differences, no_differences};
 use std::alloc::{AllocError, Global};
-use zapdu::Record;
 use zhtml::{Element, put_end, put_text};
 use zknow::{Knowledge, RowKey};
-use zknow_titles::{Entry, entry_with, label_of, lines_with, opac_of, records_of};
-use zopac::{Holding, OpacRecord, put_holding};
+use zknow_titles::{label_of, put_joined, records_of};
 
 /// Appends the cell of a catalogue's name, with a mark behind it.
 #[tactic(auto, unfolding(crate::specs::Records::name_cell))]
@@ -29,116 +26,96 @@ fn put_name(alloc: Global, name: &str, marked: &str, out: &mut String) -> Result
     put_end(Element::Td, out)
 }
 
-/// Appends the cell of a title, with the lines of all fields behind it.
+/// Appends the cell of a title, with the lines of all fields behind it; both are marked by themselves.
 #[tactic(auto, unfolding(crate::specs::Records::title_cell))]
 fn put_title(
     alloc: Global,
+    other: bool,
+    other_lines: bool,
     title: &str,
     lines: &[String],
     out: &mut String,
 ) -> Result<(), AllocError>
     ensures { OnOk result (string_bytes out.new
-        ≡ string_bytes out.old ++ title_cell title.now (map string_bytes lines.now)) }
+        ≡ string_bytes out.old ++ title_cell other other_lines title.now (map string_bytes lines.now)) }
 {
-    put_cell_start(alloc, out)?;
+    put_compared_start(alloc, other, out)?;
     put_text(alloc, title.as_bytes(), out)?;
-    put_hidden(alloc, "Fields", lines, out)?;
+    put_hidden(alloc, other_lines, "Fields", lines, out)?;
     put_end(Element::Td, out)
 }
 
-/// Returns the line of each copy.
-fn show_holdings(alloc: Global, holdings: &[Holding]) -> Result<Vec<String>, AllocError>
-    ensures { IfOk result (λ lines. map string_bytes lines.items ≡ map holding_line holdings.now) }
-{
-    let mut lines = Vec::new(alloc);
-    for holding in holdings {
-        let mut line = String::new(alloc);
-        put_holding(alloc, holding, &mut line)?;
-        lines.push(line)?;
-    }
-    Ok(lines)
-}
-
-/// Returns the lines of a record's copies, none if it has none.
-fn show_copies(alloc: Global, opac: &Option<OpacRecord>) -> Result<Vec<String>, AllocError>
-    ensures { IfOk result (λ lines. map string_bytes lines.items ≡ copies_of opac.now) }
-{
-    let Some(record) = opac else {
-        return Ok(Vec::new(alloc));
-    };
-    match &record.holdings {
-        None => Ok(Vec::new(alloc)),
-        Some(holdings) => show_holdings(alloc, holdings.as_slice()),
-    }
-}
-
-/// Appends the cells of what is shown of a record.
-#[tactic(auto, unfolding(crate::specs::Records::entry_cells))]
-fn put_entry(
+/// Appends the cells of what is shown of a record: each that differs is marked.
+#[tactic(auto, unfolding(crate::specs::Records::description_cells))]
+fn put_description(
     alloc: Global,
-    entry: &Entry,
-    fields: &Fields,
-    lines: &[String],
-    copies: &[String],
+    parts: Differences,
+    description: &Description,
     out: &mut String,
 ) -> Result<(), AllocError>
-    ensures { OnOk result (string_bytes out.new ≡ string_bytes out.old
-        ++ entry_cells (texts (string_bytes entry.now.year) (string_bytes entry.now.line))
-        (fields_of (string_bytes fields.now.title) (string_bytes fields.now.author) (string_bytes fields.now.isbn))
-        (map string_bytes lines.now) (map string_bytes copies.now)) }
+    ensures { OnOk result (string_bytes out.new ≡ string_bytes out.old ++ description_cells parts description.now) }
 {
-    put_cell(alloc, entry.year.as_str(), out)?;
-    let title = title_or(fields.title.as_str(), entry.line.as_str());
-    put_title(alloc, title, lines, out)?;
-    put_cell(alloc, fields.author.as_str(), out)?;
-    put_cell(alloc, fields.isbn.as_str(), out)?;
-    put_list_cell(alloc, copies, out)
+    let title = description.title.as_str();
+    put_compared_text(alloc, parts.year, description.year.as_str(), out)?;
+    put_title(
+        alloc,
+        parts.title,
+        parts.lines,
+        title,
+        &description.lines,
+        out,
+    )?;
+    put_compared_text(alloc, parts.author, description.author.as_str(), out)?;
+    put_compared_text(alloc, parts.isbn, description.isbn.as_str(), out)?;
+    put_compared_list(alloc, parts.copies, &description.copies, out)
 }
 
-/// Appends the cells of a record.
-fn put_record_cells(alloc: Global, record: &Record, out: &mut String) -> Result<(), AllocError>
-    ensures { OnOk result (string_bytes out.new
-        ≡ string_bytes out.old ++ record_cells «record».now (opac_of «record».now)) }
-{
-    let opac = opac_of(alloc, record)?;
-    let entry = entry_with(alloc, record, &opac)?;
-    let fields = fields_with(alloc, &record.body, &opac)?;
-    let lines = lines_with(alloc, record, &opac)?;
-    let copies = show_copies(alloc, &opac)?;
-    put_entry(alloc, &entry, &fields, &lines, &copies, out)
-}
-
-/// Appends the row of a record: of a class, with a mark.
+/// Appends the row of a record: of a class, with a mark, and with what differs.
 #[tactic(auto, unfolding(crate::specs::Records::record_row))]
 fn put_record(
     alloc: Global,
     class: &str,
     marked: &str,
+    parts: Differences,
     shown: &[String],
     key: &RowKey,
-    record: &Record,
+    description: &Description,
     out: &mut String,
 ) -> Result<(), AllocError>
     ensures { OnOk result (string_bytes out.new ≡ string_bytes out.old
-        ++ record_row class.now marked.now (map string_bytes shown.now) key.now «record».now) }
+        ++ record_row class.now marked.now parts (map string_bytes shown.now) key.now description.now) }
 {
     put_row_start(alloc, class, out)?;
     let position = key.position.to_string(alloc)?;
     put_cell(alloc, position.as_str(), out)?;
     let name = label_of(alloc, shown, key.target, key.set)?;
     put_name(alloc, name.as_str(), marked, out)?;
-    put_record_cells(alloc, record, out)?;
+    put_description(alloc, parts, description, out)?;
     put_end(Element::Tr, out)
 }
 
+/// Appends texts behind a colon, nothing if there is none.
+fn put_behind_colon(texts: &[String], words: &mut String) -> Result<(), AllocError>
+    ensures { OnOk result (string_bytes words.new
+        ≡ string_bytes words.old ++ behind_colon (map string_bytes texts.now)) }
+{
+    if texts.is_empty() {
+        return Ok(());
+    }
+    words.push_str(": ")?;
+    put_joined(", ", texts, words)
+}
+
 /// Returns what marks each of several different records.
-fn one_of(alloc: Global, count: usize) -> Result<String, AllocError>
-    ensures { IfOk result (λ words. string_bytes words ≡ one_of count) }
+fn one_of(alloc: Global, count: usize, parts: Differences) -> Result<String, AllocError>
+    ensures { IfOk result (λ words. string_bytes words ≡ one_of count parts) }
 {
     let mut words = String::from_str(alloc, "one of ")?;
     let number = count.to_string(alloc)?;
     words.push_str(number.as_str())?;
     words.push_str(" different records")?;
+    let names = name_differences(alloc, parts)?;
+    put_behind_colon(&names, &mut words)?;
     Ok(words)
 }
 
@@ -146,37 +123,64 @@ fn one_of(alloc: Global, count: usize) -> Result<String, AllocError>
 fn put_each(
     alloc: Global,
     marked: &str,
+    parts: Differences,
     shown: &[String],
     key: &RowKey,
-    records: &[Record],
+    descriptions: &[Description],
     out: &mut String,
 ) -> Result<(), AllocError>
     ensures { OnOk result (string_bytes out.new ≡ string_bytes out.old
-        ++ flat_map (record_row (codes "differs") marked.now (map string_bytes shown.now) key.now) records.now) }
+        ++ flat_map (record_row (codes "differs") marked.now parts (map string_bytes shown.now) key.now)
+        descriptions.now) }
 {
-    for record in records {
-        put_record(alloc, "differs", marked, shown, key, record, out)?;
+    for description in descriptions {
+        put_record(
+            alloc,
+            "differs",
+            marked,
+            parts,
+            shown,
+            key,
+            description,
+            out,
+        )?;
     }
     Ok(())
 }
 
-/// Appends the rows of the records at a position.
-fn put_records(
+/// Appends the row of each of several records, with its mark.
+fn put_differing(
+    alloc: Global,
+    parts: Differences,
+    shown: &[String],
+    key: &RowKey,
+    descriptions: &[Description],
+    out: &mut String,
+) -> Result<(), AllocError>
+    ensures { OnOk result (string_bytes out.new ≡ string_bytes out.old
+        ++ differing_rows (map string_bytes shown.now) key.now parts descriptions.now) }
+{
+    let marked = one_of(alloc, descriptions.len(), parts)?;
+    put_each(alloc, marked.as_str(), parts, shown, key, descriptions, out)
+}
+
+/// Appends a row for each record.
+fn put_described(
     alloc: Global,
     shown: &[String],
     key: &RowKey,
-    records: &[Record],
+    descriptions: &[Description],
     out: &mut String,
 ) -> Result<(), AllocError>
     ensures { OnOk result (string_bytes out.new
-        ≡ string_bytes out.old ++ records_rows (map string_bytes shown.now) key.now records.now) }
+        ≡ string_bytes out.old ++ described_rows (map string_bytes shown.now) key.now descriptions.now) }
 {
-    match records {
+    match descriptions {
         [] => Ok(()),
-        [record] => put_record(alloc, "record", "", shown, key, record, out),
-        _ => {
-            let marked = one_of(alloc, records.len())?;
-            put_each(alloc, marked.as_str(), shown, key, records, out)
+        [only] => put_record(alloc, "record", "", no_differences(), shown, key, only, out),
+        [first, others @ ..] => {
+            let parts = compare(first, others);
+            put_differing(alloc, parts, shown, key, descriptions, out)
         }
     }
 }
@@ -193,7 +197,8 @@ fn put_position(
         ≡ string_bytes out.old ++ position_rows (map string_bytes shown.now) knowledge.now key.now) }
 {
     let records = records_of(knowledge, key.target, key.set, &key.position);
-    put_records(alloc, shown, key, records, out)
+    let descriptions = describe_each(alloc, records)?;
+    put_described(alloc, shown, key, &descriptions, out)
 }
 
 /// Appends the rows of each position.

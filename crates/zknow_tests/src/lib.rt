@@ -13,6 +13,8 @@ mod known;
 #[cfg(test)]
 mod marc;
 #[cfg(test)]
+mod marks;
+#[cfg(test)]
 mod markup;
 #[cfg(test)]
 mod opacs;

@@ -63,13 +63,17 @@ const WANTED: &str = "\
     <li>00097nam  22000491a 4500</li><li>245 10 $a Children of Dune / $c Frank Herbert</li><li>260    $c 1976</li>\
     </ul></details></td><td role=\"cell\">Frank Herbert</td><td role=\"cell\"></td><td role=\"cell\"></td></tr>\
     <tr class=\"differs\" role=\"row\"><td role=\"cell\">2</td>\
-    <td role=\"cell\">city library<strong>one of 2 different records</strong></td><td role=\"cell\">1965</td>\
-    <td role=\"cell\">Dune messiah<details><summary>Fields</summary><ul><li>00093nam  22000491a 4500</li>\
+    <td role=\"cell\">city library<strong>one of 2 different records: year, fields</strong></td>\
+    <td class=\"other\" role=\"cell\">1965</td>\
+    <td role=\"cell\">Dune messiah<details><summary class=\"other\">Fields</summary><ul>\
+    <li>00093nam  22000491a 4500</li>\
     <li>245 10 $a Dune messiah / $c Frank Herbert</li><li>260    $c 1965</li></ul></details></td>\
     <td role=\"cell\">Frank Herbert</td><td role=\"cell\"></td><td role=\"cell\"></td></tr>\
     <tr class=\"differs\" role=\"row\"><td role=\"cell\">2</td>\
-    <td role=\"cell\">city library<strong>one of 2 different records</strong></td><td role=\"cell\">1969</td>\
-    <td role=\"cell\">Dune messiah<details><summary>Fields</summary><ul><li>00093nam  22000491a 4500</li>\
+    <td role=\"cell\">city library<strong>one of 2 different records: year, fields</strong></td>\
+    <td class=\"other\" role=\"cell\">1969</td>\
+    <td role=\"cell\">Dune messiah<details><summary class=\"other\">Fields</summary><ul>\
+    <li>00093nam  22000491a 4500</li>\
     <li>245 10 $a Dune messiah / $c Frank Herbert</li><li>260    $c 1969</li></ul></details></td>\
     <td role=\"cell\">Frank Herbert</td><td role=\"cell\"></td><td role=\"cell\"></td></tr>\
     <tr class=\"record\" role=\"row\"><td role=\"cell\">3</td><td role=\"cell\">city library</td>\
@@ -78,7 +82,7 @@ const WANTED: &str = "\
     </tbody></table></div></section></main></body></html>";
 
 // What a page of this file has before its style sheet, the style sheet, and what it has behind that.
-fn parts_of(
+pub(crate) fn parts_of(
     alloc: Global,
     file: &[u8],
     stops: &[Option<Stop>],
