@@ -11,8 +11,6 @@ mod names;
 mod refusal;
 mod source;
 mod step;
-#[cfg(test)]
-mod tests;
 
 pub use merge::Merge;
 pub use step::Step;

@@ -17,6 +17,8 @@ mod marks;
 #[cfg(test)]
 mod markup;
 #[cfg(test)]
+mod merged;
+#[cfg(test)]
 mod opacs;
 #[cfg(test)]
 mod pages;

@@ -1,12 +1,12 @@
 // Files are merged as they are loaded, absorbed and saved: the same octets, or the same refusal of the same file. They
 // are cut into pieces at every place, and into pieces of each of some sizes.
-use crate::{Merge, Step};
 use bytes::Bytes;
 use std::alloc::{AllocError, Global};
 use std::process::Abort;
 use std::test::Fail;
 use zber::Seq;
 use zknow::{Knowledge, LoadError, Names, load, save};
+use zknow_merge::{Merge, Step};
 
 /// Files, as hexadecimal digits: two names, and none; counts; failures; records and diagnostics; some of them have
 /// facts in common. Then files with a fault: none, cut off, not canonical, out of order, twice, no fact.
@@ -34,6 +34,36 @@ const FILES: &[&str] = &[
     "a403800161a106800100810102a106800100810102",
     "a403800161a106800100810102a403800161",
 ];
+
+/// Files of records in an EXTERNAL: with a name, another syntax, a position of two or three octets, no octets, more than
+/// 127, numbers of 32 bits. Then files with a fault: positions out of range and out of order, octets that are not the
+/// fewest, elements behind a record, a syntax that is none, octets in segments.
+const RECORDS: &[&str] = &[
+    "a403800161a222800100810101820101301780026462a111a10f280d06072a8648ce13050a81027231\
+    a21f80010081010182017f3014a112a110280e06082a8648ce13056d0a81027232\
+    a21f800100810101820200803013a111a10f280d06072a8648ce13050a81027233",
+    "a403800161a21c8001008101018201013011a10fa10d280b06072a8648ce13050a8100\
+    a222800100810101820101301780026462a111a10f280d06072a8648ce13050a81027231",
+    "a403800161a281a3800100810101820101308197a18194a1819128818e06072a8648ce13050a818182\
+    6d6d6d6d6d6d6d6d6d6d6d6d6d6d6d6d6d6d6d6d6d6d6d6d6d6d6d6d6d6d6d6d6d6d6d6d6d6d6d6d6d6d6d6d6d6d6d6d6d6d6d6d6d\
+    6d6d6d6d6d6d6d6d6d6d6d6d6d6d6d6d6d6d6d6d6d6d6d6d6d6d6d6d6d6d6d6d6d6d6d6d6d6d6d6d6d6d6d6d6d6d6d6d6d6d6d6d\
+    6d6d6d6d6d6d6d6d6d6d6d6d6d6d6d6d6d6d6d6d6d6d6d6d6d6d",
+    "a403800161a22180010081010182030100003014a112a110280e06082a8648ce1305ff7f81027234\
+    a220800500ffffffff810101820400800000300ea10ca10a28080602280381027235",
+    "a403800161a21e8001008101018201003013a111a10f280d06072a8648ce13050a81027231",
+    "a403800161a21e8001008101018201ff3013a111a10f280d06072a8648ce13050a81027231",
+    "a403800161a21f800100810101820200013013a111a10f280d06072a8648ce13050a81027231",
+    "a403800161a2811e8001008101018201013013a111a10f280d06072a8648ce13050a81027231",
+    "a403800161a2208001008101018201013013a111a10f280d06072a8648ce13050a810272310500",
+    "a403800161a2208001008101018201013015a113a111280d06072a8648ce13050a810272310500",
+    "a403800161a21e8001008101018201013013a111a10f280d06072a8648ce13058081027231",
+    "a403800161a2208001008101018201013015a113a111280f06072a8648ce13050aa10404027231",
+    "a403800161a21e8001008101018201023013a111a10f280d06072a8648ce13050a81027231\
+    a21e8001008101018201013013a111a10f280d06072a8648ce13050a81027232",
+];
+
+/// How many of these files are sound: the first ones.
+const SOUND: usize = 4;
 
 /// The octets of a row.
 fn octets(alloc: Global, digits: &str) -> Result<Vec<u8>, AllocError> {
@@ -239,13 +269,17 @@ fn is_alike(alloc: Global, files: &[&[u8]]) -> bool {
     }
 }
 
-/// The files of the table.
-fn files_of(alloc: Global) -> Result<Vec<Vec<u8>>, AllocError> {
+/// The files of a table.
+fn files_in(alloc: Global, rows: &[&str]) -> Result<Vec<Vec<u8>>, AllocError> {
     let mut files = Vec::new(alloc);
-    for row in FILES {
+    for row in rows {
         files.push(octets(alloc, row)?)?;
     }
     Ok(files)
+}
+
+fn files_of(alloc: Global) -> Result<Vec<Vec<u8>>, AllocError> {
+    files_in(alloc, FILES)
 }
 
 #[test]
@@ -260,6 +294,24 @@ fn each_file_alone_is_merged_as_it_is_loaded(rt: HostRuntime) -> Result<(), Fail
 fn each_two_files_are_merged_as_they_are_loaded(rt: HostRuntime) -> Result<(), Fail> {
     let files = files_of(rt.alloc())?;
     for first in &files {
+        for second in &files {
+            assert!(rt; is_alike(rt.alloc(), &[first.as_slice(), second.as_slice()]));
+        }
+    }
+    Ok(())
+}
+
+/// Whether loading a file succeeds.
+fn is_sound(alloc: Global, file: &[u8]) -> bool {
+    load(alloc, file).is_ok()
+}
+
+#[test]
+fn each_two_files_of_records_are_merged_as_they_are_loaded(rt: HostRuntime) -> Result<(), Fail> {
+    let files = files_in(rt.alloc(), RECORDS)?;
+    for (k, first) in files.iter().enumerate() {
+        assert!(rt; is_sound(rt.alloc(), first.as_slice()) == (k < SOUND));
+        assert!(rt; is_alike(rt.alloc(), &[first.as_slice()]));
         for second in &files {
             assert!(rt; is_alike(rt.alloc(), &[first.as_slice(), second.as_slice()]));
         }
