@@ -1,5 +1,9 @@
 pub mod FrontTheory
 pub mod HeadTheory
+pub mod CanonicalTheory
+pub mod PlainTheory
+pub mod PlainRecords
+pub mod PlainFacts
 pub mod SourceTheory
 pub mod FaultTheory
 pub mod ReadTheory

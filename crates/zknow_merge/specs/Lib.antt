@@ -2,6 +2,8 @@ pub mod Inputs
 pub mod Joins
 pub mod Fronts
 pub mod Heads
+pub mod Canonical
+pub mod Plain
 pub mod Sources
 pub mod Refusals
 pub mod Merges

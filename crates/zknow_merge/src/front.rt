@@ -1,5 +1,5 @@
 //! The element that octets begin with, if more octets may come after them.
-ghost use Rattle.std.specs.Prelude.{◌≡◌, List, ℕ, IfOk, IfErr, Some, None};
+ghost use Rattle.std.specs.Prelude.{◌≡◌, ◌<◌, List, ℕ, IfOk, IfErr, Some, None};
 ghost use Rattle.zknow.specs.Encodings.{encoding};
 ghost use Rattle.zknow.specs.Saved.Fronts.{IsFrontElement};
 ghost use Rattle.zknow_merge.specs.Fronts.{IsFrontOf, IsTaken, IsFrontFault, IsNodeResult, IsValueResult};
@@ -12,7 +12,7 @@ use zber::{FrameError, Framer, Node};
 /// The most octets that an element of a saved file may have.
 pub(crate) const LONGEST: u32 = 4_194_304;
 
-/// How many octets are looked at first for an element; most elements have no more.
+/// How many octets are looked at first for an element, if its header does not tell its size.
 const WINDOW: usize = 256;
 
 /// Why no value was taken from the octets.
@@ -64,15 +64,27 @@ fn front_of(alloc: Global, octets: &[u8]) -> Result<Front, AllocError>
     }
 }
 
+/// Returns how many octets the element has that octets begin with, as far as its header tells; else `WINDOW`.
+fn first_window(octets: &[u8]) -> usize
+    ensures { 0 < result }
+{
+    match octets {
+        [_, size, ..] if *size < 128 => 2 + usize::from(*size),
+        [_, 0x81, size, ..] => 3 + usize::from(*size),
+        [_, 0x82, high, low, ..] => 4 + usize::from(*high) * 256 + usize::from(*low),
+        _ => WINDOW,
+    }
+}
+
 /// Returns how much these octets show, and looks at few of them. Returns `AllocError` if no memory is found.
 ///
-/// It looks at `WINDOW` octets, then at twice as many each time, until they show the element or a fault. If it looks at
-/// more than `WINDOW`, these are fewer than twice the octets that show it. It never looks at more than `LONGEST`.
+/// It looks at as many octets as the element has by its header, then at twice as many each time, until they show the
+/// element or a fault. It never looks at more than `LONGEST`.
 fn front_element(alloc: Global, octets: &[u8]) -> Result<Front, AllocError>
     ensures { IfOk result (IsFrontOf octets.now) }
 {
     let limit = octets.len().min(LONGEST as usize);
-    let mut size = WINDOW;
+    let mut size = first_window(octets);
     loop {
         let (window, _) = octets.split_at(size.min(limit));
         match front_of(alloc, window)? {

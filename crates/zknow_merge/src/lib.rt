@@ -2,12 +2,14 @@
 //! handed out in pieces.
 #![tactic(auto)]
 
+mod canonical;
 mod choice;
 mod front;
 mod head;
 pub mod laws;
 mod merge;
 mod names;
+mod plain;
 mod refusal;
 mod source;
 mod step;

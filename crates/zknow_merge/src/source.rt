@@ -10,6 +10,7 @@ ghost use Rattle.zknow_merge.specs.Sources.{IsLastHead, IsWanting, IsReadFrom, I
 use crate::front::{FrontError, LONGEST, take_front};
 use crate::head::{Head, head_of, is_below};
 use crate::names::FileNames;
+use crate::plain::plain_head;
 use bytes::BytesMut;
 use std::alloc::{AllocError, Global};
 use zknow::{Fact, LoadError};
@@ -146,8 +147,23 @@ impl Source {
         }
     }
 
-    /// Reads a fact.
+    /// Reads a fact. Most facts are plain records: they are neither decoded nor encoded again.
     fn read_fact(&mut self, alloc: Global) -> Result<Read, AllocError>
+        requires merged { self.old.waiting ≡ false }
+        requires named { self.old.names ≢ None }
+        requires some { 0 < length self.old.octets.items }
+        ensures step { IsReadStep self.old result self.new }
+        ensures names { KeepsNames self.old self.new }
+        ensures further { result ≡ Ok Read.Element → left_of self.new < left_of self.old }
+    {
+        if let Some(head) = plain_head(alloc, &self.octets)? {
+            return self.take_head(head);
+        }
+        self.read_any_fact(alloc)
+    }
+
+    /// Reads a fact of any kind and form.
+    fn read_any_fact(&mut self, alloc: Global) -> Result<Read, AllocError>
         requires merged { self.old.waiting ≡ false }
         requires named { self.old.names ≢ None }
         requires some { 0 < length self.old.octets.items }

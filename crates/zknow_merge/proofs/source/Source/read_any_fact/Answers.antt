@@ -3,7 +3,7 @@ use Rattle.zknow.specs.Saved.SavedFacts.{saved_fact}
 use Rattle.zknow_merge.specs.Fronts.{IsFrontFault}
 use Rattle.zknow_merge.proofs.FaultTheory.{fact_fault}
 use Rattle.zknow_merge.proofs.ReadTheory.{next_head, refuse_step}
-use Rattle.zknow_merge.proofs.source.Source.read_fact.Goals as goal
+use Rattle.zknow_merge.proofs.source.Source.read_any_fact.Goals as goal
 
 pub take_head-requires-clause-head : goal.take_head-requires-clause-head
 take_head-requires-clause-head c = (
