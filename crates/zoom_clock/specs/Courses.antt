@@ -39,7 +39,7 @@ wanted_after _ wanted = wanted
 abbrev pub wake_of : Course → ℕ
 wake_of p = wake_in p.limits p.start p.wanted p.stage
 
--- a time that goes back counts as the latest seen
+-- the time of an event: the latest seen so far, if it goes back
 abbrev pub time_of : Event → Course → ℕ
 time_of e p = max p.latest e.at
 
@@ -47,7 +47,7 @@ time_of e p = max p.latest e.at
 abbrev pub is_idle : Event → Course → Bool
 is_idle e p = is_settled p.stage || (is_tick e.what && not (nat_le (wake_of p) e.at))
 
--- what the rules make of it
+-- what the rules make of what was told; a tick before its time does not get here, as it is idle
 abbrev pub ruling_of : Event → Course → Ruling
 ruling_of e p = ruling p.limits p.start (time_of e p) p.wanted e.what p.stage
 

@@ -78,7 +78,7 @@ abbrev pub resolved : ℕ → ℕ → Ruling
 resolved now zero = staying (Over endings.Connect)
 resolved now (suc more) = record { stage = Connecting (first_attempts (suc more) now); tasks = Connect 0 ∷ [] }
 
--- what is told of a connection whose name was not resolved
+-- what is told of a connection whose name was not yet resolved; a tick is one whose time has come
 abbrev pub resolving_ruling : ℕ → Signal → Ruling
 resolving_ruling now (signals.Resolved addresses) = resolved now addresses
 resolving_ruling now signals.GiveUp = staying (Over endings.Turns)
@@ -104,7 +104,7 @@ beginning now (Some k) a = record { stage = Connecting (with_begun now k a); tas
 abbrev pub beginning_next : ℕ → Attempts → Ruling
 beginning_next now a = beginning now (next_of a.states) a
 
--- the open attempts are left
+-- the connection is over: the socket of each open attempt is to be closed
 abbrev pub giving_up : Ending → Attempts → Ruling
 giving_up ending a = record { stage = Over ending; tasks = leaves a.states }
 
@@ -123,7 +123,7 @@ first_talk limits now k = record { socket = k; heard = now; left = limits.pieces
 abbrev pub reading : Bool → List Task
 reading wanted = if wanted then Read ∷ [] else []
 
--- attempt k has connected: the others are left
+-- attempt k has connected: the sockets of the other open ones are to be closed
 abbrev pub winning : Limits → ℕ → Bool → ℕ → Attempts → Ruling
 winning limits now wanted k a =
     record { stage = Talking (first_talk limits now k); tasks = leaves (slice_set a.states k Failed) ++ reading wanted }
@@ -133,7 +133,7 @@ abbrev pub connecting_late : Limits → ℕ → ℕ → Attempts → Ruling
 connecting_late limits start now a =
     if nat_le (connect_end limits start a.began) now then giving_up endings.Connect a else beginning_next now a
 
--- what is told of a connection that has not connected
+-- what is told of a connection that has not connected; a tick is one whose time has come
 abbrev pub connecting_ruling : Limits → ℕ → ℕ → Bool → Signal → Attempts → Ruling
 connecting_ruling limits start now wanted (signals.Connected k) a =
     if is_open k a.states then winning limits now wanted k a else staying (Connecting a)
@@ -153,7 +153,7 @@ connecting_ruling limits start now wanted signals.Turn a = staying (Connecting a
 
 -- ---- talking
 
--- its socket is left
+-- the connection is over: its socket is to be closed
 abbrev pub ending_talk : Talk → Ending → Ruling
 ending_talk t ending = record { stage = Over ending; tasks = Leave t.socket ∷ [] }
 
@@ -204,7 +204,7 @@ listening now wanted t =
     if wanted then staying (Talking t)
     else record { stage = Talking (record t { heard = now }); tasks = Read ∷ [] }
 
--- what is told of a connection that is talked with
+-- what is told of a connection that is talked with; a tick is one whose time has come
 abbrev pub talking_ruling : ℕ → Bool → Signal → Talk → Ruling
 talking_ruling now wanted (signals.Octets condition) t = hearing now condition t
 talking_ruling now wanted signals.Taken t = staying (Talking (record t { heard = now }))

@@ -11,7 +11,8 @@ pub fn late_laws()
     ensures { LateLaws }
 {}
 
-/// A tick before the time to wake changes nothing; one from then on ends the connection, or begins an attempt.
+/// A tick before the time to wake changes nothing; one from then on ends the connection, or begins an attempt. After a
+/// tick the time to wake is later than the tick.
 pub fn wake_laws()
     ensures { WakeLaws }
 {}

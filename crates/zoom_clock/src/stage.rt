@@ -50,7 +50,8 @@ impl Stage {
         }
     }
 
-    /// The first time at which a tick does something. `None` if no limit runs, or no clock gets there.
+    /// Returns the first time at which a tick does something, in nanoseconds of the caller's clock. `None` if no limit
+    /// runs, or if the time is above `u64::MAX`, so that no clock gets there.
     pub(crate) fn wake_at(&self, limits: &Limits, start: u64, wanted: bool) -> Option<u64>
         ensures { IsTime (wake_in limits.now start wanted self.now) result }
     {
@@ -65,7 +66,9 @@ impl Stage {
         }
     }
 
-    /// What is told of the connection, by the rules.
+    /// Notes what is told of the connection, at any stage, by the rules: sets the stage, and puts what is to be done
+    /// into the queue. A tick is one whose time has come: the caller has told no earlier one. Of a connection that is
+    /// over, or not chosen, what is told changes nothing.
     pub(crate) fn note(
         &mut self,
         alloc: Global,
@@ -97,8 +100,8 @@ impl Stage {
     }
 }
 
-/// When a connection is given up that has not connected, if it began to connect at `began`. `None` if no clock gets
-/// there.
+/// Returns when a connection is given up that has not connected, if it began to connect at `began`, in nanoseconds of
+/// the caller's clock. `None` if the time is above `u64::MAX`, so that no clock gets there.
 fn connect_end(limits: &Limits, start: u64, began: u64) -> Option<u64>
     ensures { IsTime (connect_end limits.now start began) result }
 {
@@ -107,7 +110,8 @@ fn connect_end(limits: &Limits, start: u64, began: u64) -> Option<u64>
 
 // ---- resolving
 
-/// The name has so many addresses.
+/// Returns the stage after the name was resolved to so many addresses: over, if there are none, else connecting, with
+/// the first attempt put into the queue.
 fn resolve(
     alloc: Global,
     at: &Moment,
@@ -124,7 +128,8 @@ fn resolve(
     Ok(Stage::Connecting(attempts))
 }
 
-/// What is told of a connection whose name was not resolved.
+/// Returns the stage after what is told of a connection whose name was not yet resolved. A tick is one whose time has
+/// come: it ends the wait for the name.
 fn note_resolving(
     alloc: Global,
     at: &Moment,
@@ -144,7 +149,7 @@ fn note_resolving(
 
 // ---- connecting
 
-/// Begins the next attempt, if one is left.
+/// Begins the next attempt, if one is left, and puts it into the queue.
 fn begin_next(
     at: &Moment,
     attempts: &mut Attempts,
@@ -163,7 +168,7 @@ fn begin_next(
     }
 }
 
-/// The connection is over: its open attempts are left.
+/// Ends a connection that has not connected: puts into the queue that the socket of each open attempt is to be closed.
 fn give_up(
     at: &Moment,
     ending: Ending,
@@ -176,7 +181,8 @@ fn give_up(
     Ok(Stage::Over(ending))
 }
 
-/// Attempt `k` has failed, and was noted.
+/// Returns the stage after attempt `k` failed, which is noted in `attempts` already: over, if all have failed, else
+/// `None`, as it goes on with its attempts. If `k` was begun last, the next attempt begins at once.
 fn fail(
     at: &Moment,
     k: usize,
@@ -195,7 +201,7 @@ fn fail(
     Ok(None)
 }
 
-/// Octets are wanted, if the turn of the connection has come.
+/// Puts into the queue that octets are wanted, if the turn of the connection has come.
 fn read_if_wanted(at: &Moment, queue: &mut VecDeque<Action>) -> Result<(), AllocError>
     ensures { OnOk result (AreAdded at.now.c (reading at.now.wanted) queue.old.items queue.new.items) }
 {
@@ -205,7 +211,8 @@ fn read_if_wanted(at: &Moment, queue: &mut VecDeque<Action>) -> Result<(), Alloc
     Ok(())
 }
 
-/// Attempt `k` has connected.
+/// Returns the stage after attempt `k` connected: talking, by its socket. Puts into the queue that the sockets of the
+/// other open attempts are to be closed, and that octets are wanted, if the turn of the connection has come.
 fn win(
     at: &Moment,
     k: usize,
@@ -222,7 +229,8 @@ fn win(
     Ok(Stage::Talking(Talk::new(&at.limits, at.time, k)))
 }
 
-/// A time has come: the connection is given up, or its next attempt begins.
+/// Returns the stage after a time of a connection has come that has not connected: over, if it has waited for as long
+/// as it may, else `None`, and its next attempt begins, if one is left.
 fn note_late(
     at: &Moment,
     attempts: &mut Attempts,
@@ -238,7 +246,8 @@ fn note_late(
     Ok(None)
 }
 
-/// What is told of a connection that has not connected.
+/// Returns the stage after what is told of a connection that has not connected; `None` if it goes on with its attempts.
+/// What is told of an attempt that is not open changes nothing. A tick is one whose time has come.
 fn note_connecting(
     at: &Moment,
     what: Signal,
@@ -277,7 +286,7 @@ fn note_connecting(
 
 // ---- talking
 
-/// The connection is over: its socket is left.
+/// Ends a connection that is talked with: puts into the queue that its socket is to be closed.
 fn end_talk(
     at: &Moment,
     talk: &Talk,
@@ -290,7 +299,8 @@ fn end_talk(
     Ok(Stage::Over(ending))
 }
 
-/// Octets came: they have ended the connection, or it goes on.
+/// Returns the stage after octets came that left the connection in this condition: over, if they have ended it or no
+/// more pieces may come, else talking.
 fn hear(
     at: &Moment,
     condition: Condition,
@@ -310,7 +320,8 @@ fn hear(
     Ok(Stage::Talking(talk))
 }
 
-/// A write failed: what still comes is read, unless the connection has all it wanted.
+/// Returns the stage after a write failed: over, if the connection has all it wanted, else talking, since what still
+/// comes is read.
 fn lose(at: &Moment, mut talk: Talk, queue: &mut VecDeque<Action>) -> Result<Stage, AllocError>
     ensures { IfOk result (λ s. IsRuling (losing talk) at.now.c s queue.old.items queue.new.items) }
 {
@@ -321,7 +332,8 @@ fn lose(at: &Moment, mut talk: Talk, queue: &mut VecDeque<Action>) -> Result<Sta
     Ok(Stage::Talking(talk))
 }
 
-/// The turn of the connection has come.
+/// Returns the stage after the turn of the connection has come: octets are wanted from now on, and its silence counts
+/// from now on. If they were wanted before, nothing changes.
 fn listen(at: &Moment, mut talk: Talk, queue: &mut VecDeque<Action>) -> Result<Stage, AllocError>
     ensures { IfOk result (λ s. IsRuling (listening at.now.time at.now.wanted talk) at.now.c s
         queue.old.items queue.new.items) }
@@ -334,7 +346,8 @@ fn listen(at: &Moment, mut talk: Talk, queue: &mut VecDeque<Action>) -> Result<S
     Ok(Stage::Talking(talk))
 }
 
-/// The connection is given up for this reason.
+/// Ends a connection that is talked with and given up for this reason. One that has all it wanted ends as if its input
+/// had ended, and one of which a write failed, for that.
 fn end_for(
     at: &Moment,
     talk: &Talk,
@@ -348,7 +361,8 @@ fn end_for(
     end_talk(at, talk, verdict, queue)
 }
 
-/// What is told of a connection that is talked with.
+/// Returns the stage after what is told of a connection that is talked with. A tick is one whose time has come: it ends
+/// the connection.
 fn note_talking(
     at: &Moment,
     what: Signal,

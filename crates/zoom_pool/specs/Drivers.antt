@@ -376,7 +376,8 @@ IsSentAgenda true a (phases.Asking b) = AfterNoteSent a b
 IsSentAgenda true a _ = ⊥
 IsSentAgenda false a new = new ≡ phases.Asking a
 
--- the phase after a call that the origin admitted: it changes if the driver gave the call at that phase
+-- the phase after a call that the origin admitted: Init and Close set it at any phase, a Search and a Present only
+-- where the driver gives them
 abbrev pub SendStep : origin.Call → Phase → Phase → Type 0
 SendStep origin.Init old new = new ≡ phases.Opening
 SendStep (origin.Search op set ask) (phases.Opened present three) new = new ≡ phases.Searching present three

@@ -47,7 +47,7 @@ pub record MetaAfterUpTo
   pub driven : AreDriven questions s h meta.drivers
   pub size : length meta.pool.connections ≡ length questions
 
--- the same, and there is no such connection
+-- the same, and no connection is in `partial`: no Take that found no memory is left to be completed
 abbrev pub MetaAfter : List Question → MetaSettings → History → MetaLinks → Type 0
 MetaAfter questions s h meta = MetaAfterUpTo questions s [] h meta
 
@@ -65,7 +65,8 @@ MetaRecorded c event old new =
     (questions : List Question) (s : MetaSettings) (partial : List ℕ) (h : History)
     → MetaAfterUpTo questions s partial h old → MetaAfterUpTo questions s partial ((c, event) ∷ h) new
 
--- the same of a Take of `c`; it completes an earlier Take of `c` that found no memory
+-- each history that can have left `old`, with a Take of `c` added, can have left `new`; the Take completes an earlier
+-- one of `c` that found no memory, unless the connection is stopped
 abbrev pub MetaTakeStep : ℕ → MetaLinks → MetaLinks → Type 0
 MetaTakeStep c old new =
     (questions : List Question) (s : MetaSettings) (partial : List ℕ) (h : History)

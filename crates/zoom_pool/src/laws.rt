@@ -35,24 +35,27 @@ pub fn take_laws()
 }
 
 /// A history that can have left a pool, after takes of some connections that found no memory, can also have left it
-/// after such takes of those and of others.
+/// after such takes of those and of others (`AfterUpTo`).
 pub fn up_to()
     ensures { UpToLaw }
 {}
 
-/// If no take is left that found no memory, exactly the facts of the accepted replies are known.
+/// Exactly the facts of the accepted replies are known, if a history can have left the pool and no take that found no
+/// memory is left to be completed (`After`).
 pub fn exactly_known()
     ensures { ExactLaw }
 {}
 
 /// Two histories with the same accepted replies, reference ids aside, leave the same knowledge and print the same
-/// list. The order of their events and the cutting of the streams do not matter.
+/// list, if in each no take that found no memory is left to be completed (`After`). The order of their events and the
+/// cutting of the streams do not matter.
 pub fn order_does_not_matter()
     ensures { OrderLaw }
 {}
 
 /// The known records of a row are those that accepted replies show there. The row is a conflict exactly if two of
-/// them differ; it is then printed as a conflict, with all its records.
+/// them differ; it is then printed as a conflict, with all its records. This holds of a pool that a history can have
+/// left with no take that found no memory to be completed (`After`).
 pub fn conflicts()
     ensures { ConflictLaw }
 {
@@ -62,7 +65,8 @@ pub fn conflicts()
 
 /// For connections that are driven: Close aside, each is asked at most two things, plus one for each wanted
 /// position up to the number that its search found. With the same accepted replies, reference ids aside, the same
-/// list is printed.
+/// list is printed. This holds if a history can have left the pool and its drivers, and no take that found no memory
+/// is left to be completed (`MetaAfter`).
 pub fn meta_laws()
     ensures { MetaLaws }
 {
@@ -71,7 +75,8 @@ pub fn meta_laws()
 }
 
 /// What a driven connection sends is decided by its history. At most one call is the driver's, and a Present has the
-/// fewest ranges. Two drives after the same history that return `Ok` send the same requests in the same order.
+/// fewest ranges. Two drives after the same history that return `Ok` send the same requests in the same order. Takes
+/// that found no memory may be left to be completed (`MetaAfterUpTo`).
 pub fn drive_laws()
     ensures { DriveLaws }
 {

@@ -121,9 +121,10 @@ impl Pool {
     /// known stays known.
     ///
     /// If it is refused as `Frame`, `Decode` or `Refused`, the connection has failed for that reason, and what is
-    /// known stays as it is. If it is refused as `Memory`, the connection keeps the message for the next take, and
-    /// a part of what the message says may be known. It does so even if other connections are used, or this one
-    /// is, before the next take.
+    /// known stays as it is. If it is refused as `Memory`, the connection keeps the message for its next take, and a
+    /// part of what the message says may be known. The connection keeps it even if this or other connections are used
+    /// before that take. Its next take that finds memory completes the earlier one, unless the connection was stopped
+    /// in between: then all that the message says is known.
     pub fn take(&mut self, c: u32) -> Result<Step, TakeError>
         requires { c < length self.old.connections }
         // if memory is found

@@ -40,7 +40,8 @@ copy_word (Some number) = if is_worded number then [] else codes "copy "
 abbrev pub item : HoldingsAndCirc → List ℕ
 item c =
     joined (codes ", ")
-    (shown c.call_number ∷ labelled (copy_word c.copy_number) (shown c.copy_number) ∷ shown c.enumeration_and_chronology ∷ [])
+    (shown c.call_number ∷ labelled (copy_word c.copy_number) (shown c.copy_number)
+    ∷ shown c.enumeration_and_chronology ∷ [])
 
 -- both
 abbrev pub head : HoldingsAndCirc → List ℕ

@@ -267,8 +267,8 @@ fn show_holding(alloc: Global, holding: &Holding) -> Result<String, AllocError>
 /// the line is `copy without details`.
 ///
 /// - Where it stands and which it is, with `: ` between them: localLocation, shelvingLocation and nucCode; callNumber,
-///   `copy ` and copyNumber (alone if it begins with `copy`, `Copy` or `COPY`), and enumAndChron; each with `, ` between
-///   them.
+///   `copy ` and copyNumber (alone if it begins with `copy`, `Copy` or `COPY`), and enumAndChron; each with `, `
+///   between them.
 /// - Each volume, in order: enumeration, chronology and enumAndChron, with `, ` between them.
 /// - publicNote.
 /// - Each circulation record, in order: enumAndChron and `: `; then `available` or `not available`; then `until ` and

@@ -69,7 +69,8 @@ called_at s call = admitted_unless s call (refusal s call)
 
 -- ---- replies
 
--- what a response to Init puts in force: the options and the version that it has
+-- what a response to Init puts in force: the options and the version that it has, by the bits of Options and of
+-- ProtocolVersion (Z39.50-2003, 4.1); a bit that is left out is not set
 abbrev pub force_in : InitResponse → InForce
 force_in v = record {
   search = slice_index_or v.options 0 false;

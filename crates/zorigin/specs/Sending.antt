@@ -30,11 +30,11 @@ use Rattle.zorigin.specs.declared.refusal.CallRefused.TheVariants as refused
 use Rattle.zorigin.specs.References.{reference_id}
 use Rattle.zorigin.specs.Standings.{Call, Init, Search, Present, Close, Standing, search_of}
 
--- versions 1 to 3
+-- versions 1 to 3: bits 0, 1 and 2 of ProtocolVersion (4.1)
 abbrev pub versions : List Bool
 versions = true ∷ true ∷ true ∷ []
 
--- search 0, present 1, concurrentOperations 13, namedResultSets 14
+-- search 0, present 1, concurrentOperations 13, namedResultSets 14: bits of Options (4.1)
 abbrev pub options : List Bool
 options =
     true ∷ true ∷ false ∷ false ∷ false ∷ false ∷ false ∷ false ∷ false ∷ false ∷ false ∷ false ∷ false
@@ -173,18 +173,20 @@ encoding_of apdu = element_octets (apdu_spelling apdu)
 abbrev pub sent_of : Apdu → Sent
 sent_of apdu = record { apdu = apdu; octets = encoding_of apdu }
 
--- the result of sending what can be sent unless the test holds: the value, or that it can't be sent; memory aside
+-- the value, if it can be sent, or `Unsendable` exactly if the test says that it can't; of `Memory` nothing is said,
+-- and there is no other refusal
 abbrev pub IsSentUnless : {X : Type 0} → Bool → X → Result X CallRefused → Type 0
 IsSentUnless unsendable value (Ok sent) = (unsendable ≡ false) × (sent ≡ value)
 IsSentUnless unsendable value (Err refused.Unsendable) = unsendable ≡ true
 IsSentUnless unsendable value (Err refused.Memory) = Unit {0}
 IsSentUnless unsendable value (Err _) = ⊥
 
--- the result of encoding an element
+-- the canonical encoding of an element, or `Unsendable` exactly if it is too deep or too long to be sent; of `Memory`
+-- nothing is said
 abbrev pub IsEncodeResult : Element → Result (List ℕ) CallRefused → Type 0
 IsEncodeResult n result = IsSentUnless (too_large (Some n)) (canonical n) result
 
--- the result of sending an APDU
+-- the APDU with its octets, or `Unsendable` exactly if it has none that can be sent; of `Memory` nothing is said
 abbrev pub IsSendResult : Apdu → Result Sent CallRefused → Type 0
 IsSendResult apdu result = IsSentUnless (is_unsendable apdu) (sent_of apdu) result
 

@@ -29,7 +29,9 @@ fn is_open(state: State) -> bool
     )
 }
 
-/// The options and version that a response to Init puts in force.
+/// Returns the options and the version that a response to Init puts in force. Of Options these are the bits search 0,
+/// present 1, concurrentOperations 13 and namedResultSets 14; of ProtocolVersion version 3 is bit 2 (Z39.50-2003, 4.1).
+/// A bit that is left out is not set.
 fn force_in(response: &InitResponse) -> InForce
     ensures { result ≡ force_in response.now }
 {

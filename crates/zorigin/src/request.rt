@@ -17,10 +17,10 @@ use zplan::Range;
 /// The size in octets that is offered for records and for one record.
 const SIZE: i64 = 1_048_576;
 
-/// Versions 1 to 3.
+/// Versions 1 to 3: bits 0, 1 and 2 of ProtocolVersion (Z39.50-2003, 4.1).
 const VERSIONS: [bool; 3] = [true, true, true];
 
-/// Search 0, present 1, concurrentOperations 13, namedResultSets 14.
+/// Search 0, present 1, concurrentOperations 13, namedResultSets 14: bits of Options (Z39.50-2003, 4.1).
 const OPTIONS: [bool; 15] = [
     true, true, false, false, false, false, false, false, false, false, false, false, false, true,
     true,

@@ -113,7 +113,8 @@ fn phrase_places(
     Ok(found)
 }
 
-/// Returns the entries that have the words, one after the other, in a field of the Use. There is at least one word.
+/// Returns the entries that have the words, one after the other, in a field of the Use, in order. With truncation the
+/// last may be the beginning of a word. There is at least one word.
 fn with_words(
     alloc: Global,
     index: &Index,

@@ -387,7 +387,8 @@ impl Target {
         matching_places(self.alloc, &self.databases, names, query)
     }
 
-    /// Returns the number of pending replies: those that are owed and not yet handed out. It takes no memory.
+    /// Returns the number of pending replies: those that are owed and not yet handed out. Each has an element of at
+    /// most 64 levels. It takes no memory.
     pub fn pending(&self) -> usize
         ensures count { result ≡ length self.now.pending }
         ensures elements { All HasElement self.now.pending }
