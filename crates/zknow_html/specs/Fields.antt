@@ -34,7 +34,7 @@ abbrev pub format_fields : Option Format → List ℕ → FieldTexts
 format_fields None octets = no_fields
 format_fields (Some format) octets = marc_fields format octets
 
--- those of a content in a syntax
+-- those of a content in a syntax: of octets that are read as MARC; other contents have none
 abbrev pub content_fields : Option (List ℕ) → Content → FieldTexts
 content_fields direct (Single e) = no_fields
 content_fields direct (Aligned octets) = format_fields (format_of (unwrap_or direct []) octets) octets

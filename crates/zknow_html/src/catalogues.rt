@@ -88,7 +88,7 @@ fn put_measure(
     put_start(alloc, Element::Meter, &attributes, out)
 }
 
-/// Returns `2 of 24`.
+/// Returns how many of how many are shown, as `2 of 24`.
 fn share_text(alloc: Global, shown: &str, count: &str) -> Result<String, AllocError>
     ensures { IfOk result (λ words. string_bytes words ≡ shown.now ++ codes " of " ++ count.now) }
 {

@@ -65,7 +65,8 @@ fn arcs_of(direct: &Option<Oid>) -> &[u32]
     }
 }
 
-/// Returns the texts of a content in a syntax.
+/// Returns the texts of a content in a syntax: the title, the author and the ISBN of octets that are read as MARC.
+/// Other contents have no text.
 fn content_fields(
     alloc: Global,
     direct: &Option<Oid>,

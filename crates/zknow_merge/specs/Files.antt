@@ -22,7 +22,8 @@ pub record AreFilesOf (inputs : List Input) (files : List (List ℕ)) : Type 0 w
 abbrev pub AreSavedBefore : List (List ℕ) → List (List ℕ) → ℕ → Type 0
 AreSavedBefore names files count = (k : ℕ) → k < count → HasNames names (file_at files k)
 
--- the first file that is refused has this fault
+-- file `number` is the first that is refused, with this fault, which is not `Memory`; the files before it are saved
+-- files with one list of names
 pub record IsFirstAtFault (files : List (List ℕ)) (number : ℕ) (fault : LoadError) : Type 0 where
   pub among : number < length files
   pub names : List (List ℕ)
@@ -30,7 +31,8 @@ pub record IsFirstAtFault (files : List (List ℕ)) (number : ℕ) (fault : Load
   pub is : IsLoadFault (file_at files number) fault
   pub some : fault ≢ loads.Memory
 
--- the first file that is refused is a saved file with other names than those before it
+-- file `number` is the first that is refused: it is a saved file with other names than the files before it, of which
+-- there is at least one
 pub record HasFirstOthers (files : List (List ℕ)) (number : ℕ) : Type 0 where
   pub among : number < length files
   pub some : 0 < number

@@ -99,14 +99,16 @@ abbrev pub AreSound : List Input → List (List ℕ) → ℕ → Type 0
 AreSound inputs names count =
     (k : ℕ) → k < count → ((input_at inputs k).ended ≡ true) × HasNames names (input_at inputs k).octets
 
--- the first input that is refused has this fault
+-- input `number` is the first that is refused, with this fault; the inputs before it are at their ends, and are saved
+-- files with one list of names
 pub record IsFirstFault (inputs : List Input) (number : ℕ) (fault : LoadError) : Type 0 where
   pub among : number < length inputs
   pub names : List (List ℕ)
   pub before : AreSound inputs names number
   pub is : IsFaultOf (input_at inputs number) fault
 
--- the first input that is refused is a saved file with other names than those before it
+-- input `number` is the first that is refused: it is at its end, and is a saved file with other names than the inputs
+-- before it, of which there is at least one
 pub record AreFirstOthers (inputs : List Input) (number : ℕ) : Type 0 where
   pub among : number < length inputs
   pub some : 0 < number

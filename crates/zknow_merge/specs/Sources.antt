@@ -165,7 +165,7 @@ abbrev pub AreSame : List Source → ℕ → Type 0
 AreSame sources count = (k : ℕ) (d e : Source) → k < count → k < length sources
     → HaveSameNames (slice_index_or sources 0 d) (slice_index_or sources k e)
 
--- the first source that has read other names than the first of all
+-- source `k` is the first that has read other names than source 0
 pub record IsFirstOther (sources : List Source) (k : ℕ) : Type 0 where
   pub among : k < length sources
   pub before : AreSame sources k

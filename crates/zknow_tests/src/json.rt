@@ -91,8 +91,8 @@ const CONFLICTS: Vector = (
 );
 
 // Records of MARC, whose fields are members: MARC 21 and UNIMARC; without a title; in MARC-8; with hostile octets; in
-// a syntax that is none of MARC; none of SUTRS; UNIMARC read as MARC 21; with marks alone; several at a position; and one
-// with an indirect reference.
+// a syntax that is none of MARC; none of SUTRS; UNIMARC read as MARC 21; with marks alone; several at a position; and
+// one with an indirect reference.
 const FIELDS: Vector = (
     b"\xa4\x03\x80\x01a\xa2\x82\x016\x80\x01\x00\x81\x01\x01\x82\x01\x010\x82\x01)\x80\x01d\xa1\x82\x01\"\
     \xa1\x82\x01\x1e(\x82\x01\x1a\x06\x07*\x86H\xce\x13\x05\n\x81\x82\x01\r00269nam a2200097 a 45000080\

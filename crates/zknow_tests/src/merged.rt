@@ -35,9 +35,9 @@ const FILES: &[&str] = &[
     "a403800161a106800100810102a403800161",
 ];
 
-/// Files of records in an EXTERNAL: with a name, another syntax, a position of two or three octets, no octets, more than
-/// 127, numbers of 32 bits. Then files with a fault: positions out of range and out of order, octets that are not the
-/// fewest, elements behind a record, a syntax that is none, octets in segments.
+/// Files of records in an EXTERNAL: with a name, another syntax, a position of two or three octets, no octets, more
+/// than 127, numbers of 32 bits. Then files with a fault: positions out of range and out of order, octets that are not
+/// the fewest, elements behind a record, a syntax that is none, octets in segments.
 const RECORDS: &[&str] = &[
     "a403800161a222800100810101820101301780026462a111a10f280d06072a8648ce13050a81027231\
     a21f80010081010182017f3014a112a110280e06082a8648ce13056d0a81027232\

@@ -131,7 +131,8 @@ pub fn count_shown(knowledge: &Knowledge, key: &SetKey) -> Result<usize, AllocEr
     Ok(count_shown_at(knowledge, key, &positions))
 }
 
-/// Returns the counts in words, and how many records are shown.
+/// Returns the counts in words, and at how many positions a record is shown, as `24 or 25 found, 2 shown`. Several
+/// records at one position count once.
 fn show_counts(alloc: Global, shown: usize, counts: &[i64]) -> Result<String, AllocError>
     ensures { IfOk result (λ text. string_bytes text ≡ count_text shown counts.now) }
 {

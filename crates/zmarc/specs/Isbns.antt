@@ -26,7 +26,7 @@ leading_number octets = numbered (before_first (λ x. x == 0x20) octets)
 abbrev pub isbn_of_field : List ℕ → Option (List ℕ)
 isbn_of_field field = option_and_then leading_number (first_subfield (byte "a") field)
 
--- that of the first field, of all that have the tag, that has one
+-- the ISBN of the first field with the tag that has one
 unfoldable pub isbn_number : Format → List ℕ → Option (List ℕ)
 isbn_number format octets = first_given isbn_of_field (tagged_fields (isbn_tag format) octets)
 

@@ -22,11 +22,12 @@ first_four_digits (x ∷ xs) = option_or (four_digits (x ∷ xs)) (first_four_di
 unfoldable pub first_year : List ℕ → Option (List ℕ)
 first_year octets = first_four_digits octets
 
--- those of the first subfield of a field that has this code
+-- the first four digits side by side in the first subfield of a field that has this code
 abbrev pub year_of_field : ℕ → List ℕ → Option (List ℕ)
 year_of_field code field = option_and_then first_year (first_subfield code field)
 
--- those of the first field, of all that have this tag, that has any
+-- the first four digits side by side in the first subfield with this code, of the first field with this tag that has
+-- some there
 unfoldable pub year_in : List ℕ → ℕ → List ℕ → Option (List ℕ)
 year_in tag code octets = first_given (year_of_field code) (tagged_fields tag octets)
 

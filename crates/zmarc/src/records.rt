@@ -266,8 +266,8 @@ pub fn first_field<'a>(octets: &'a [u8], tag: &[u8]) -> Option<&'a [u8]>
     None
 }
 
-/// The octets of each field that has this tag, in the order of the directory; none where the leader tells no base
-/// address.
+/// Returns the octets of each field that has this tag, in the order of the directory; none where the leader tells no
+/// base address. An entry of the directory that tells of no field (`count_lost`) is left out.
 #[tactic(auto, unfolding(crate::specs::Records::tagged_fields), using(crate::proofs::FieldTheory::tagged_fields_none))]
 pub(crate) fn gather_tagged_fields<'a>(
     alloc: Global,
@@ -292,7 +292,8 @@ pub(crate) fn gather_tagged_fields<'a>(
     Ok(found)
 }
 
-/// The fields, in the order of the directory; none where the leader tells no base address.
+/// Returns the fields, in the order of the directory; none where the leader tells no base address. An entry of the
+/// directory that tells of no field (`count_lost`) is left out.
 #[tactic(auto, using(crate::proofs::FieldTheory::fields_none))]
 pub(crate) fn gather_fields(
     alloc: Global,

@@ -36,7 +36,7 @@ fn find_first_year(octets: &[u8]) -> Option<&[u8]>
     None
 }
 
-/// Those of the first subfield of a field that has this code.
+/// Returns the first four digits side by side in the first subfield of a field that has this code.
 fn find_year_of_field(code: u8, field: &[u8]) -> Option<&[u8]>
     ensures { option_copied result ≡ year_of_field code field.now }
 {
@@ -46,7 +46,8 @@ fn find_year_of_field(code: u8, field: &[u8]) -> Option<&[u8]>
     }
 }
 
-/// Those of the first field that has any.
+/// Returns the first four digits side by side in the first subfield with this code, of the first of the fields that has
+/// some there.
 fn find_year_of_fields<'a>(code: u8, fields: &[&'a [u8]]) -> Option<&'a [u8]>
     ensures { option_copied result ≡ first_given (year_of_field code) (behind_each fields.now) }
 {
@@ -58,7 +59,8 @@ fn find_year_of_fields<'a>(code: u8, fields: &[&'a [u8]]) -> Option<&'a [u8]>
     None
 }
 
-/// Those of the first field, of all that have this tag, that has any.
+/// Returns the first four digits side by side in the first subfield with this code, of the first field with this tag
+/// that has some there.
 #[tactic(auto, unfolding(crate::specs::Years::year_in))]
 fn find_year_in<'a>(
     alloc: Global,

@@ -16,6 +16,7 @@ is_bare_octet x = is_ascii_alphanumeric x || x == 0x2E || x == 0x2D || x == 0x5F
 abbrev pub is_bare : List ℕ → Bool
 is_bare text = not (length text == 0) && nat_le (length text) 60 && list_all is_bare_octet text
 
--- the name of a host, a file or a syntax, in quotes if it needs them
+-- the name of a host, a file or a syntax: as it is, if it has 1 to 60 octets of these kinds; else in quotes and cut
+-- behind 40 octets
 abbrev pub name_text : List ℕ → List ℕ
 name_text text = if is_bare text then text else shown_text text

@@ -40,7 +40,7 @@ fn is_word(octet: u8) -> bool
     !is_space(octet)
 }
 
-/// Returns the text behind its first octets.
+/// Returns the text behind its first `at` octets, nothing if it has no more.
 pub(crate) fn behind(text: &[u8], at: usize) -> &[u8]
     ensures { result.now ≡ drop at text.now }
 {

@@ -47,7 +47,8 @@ fn is_bare(text: &[u8]) -> bool
     !text.is_empty() && text.len() <= MOST_BARE && are_bare(text)
 }
 
-/// Appends the name of a host, a file or a syntax, in quotes if it needs them.
+/// Appends the name of a host, a file or a syntax: as it is, if it has 1 to 60 octets, each a letter of ASCII, a digit
+/// or one of `.-_/:`; else in quotes and cut behind 40 octets.
 pub(crate) fn put_name(alloc: Global, text: &[u8], line: &mut Vec<u8>) -> Result<(), AllocError>
     ensures { OnOk result (line.new.items ≡ line.old.items ++ name_text text.now) }
 {

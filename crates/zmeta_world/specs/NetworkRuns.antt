@@ -13,7 +13,7 @@ use Rattle.zmeta_world.specs.Worlds.{asked_names}
 use Rattle.zmeta_world.specs.Finding.{questions_of, AreFound, IsFirstUnfoundLine, IsFirstUnfound}
 use Rattle.zmeta_world.specs.InMemoryRuns.{settings_by}
 
--- the host at this end, if it is one
+-- the host at this end; none for a target in memory, and none at a place without a host
 abbrev pub host_at : List NamedHost → End → Option NamedHost
 host_at hosts (ends.Host place) = slice_get hosts place
 host_at hosts (ends.Target place) = None

@@ -28,7 +28,7 @@ pub struct NetworkRun {
     pub names: Names,
 }
 
-/// Returns the host at this end, or `None` if the end is a target in memory.
+/// Returns the host at this end. `None` if the end is a target in memory, or if there is no host at its place.
 fn host_at(hosts: &[NamedHost], end: End) -> Option<&NamedHost>
     ensures { option_map (λ host. host.now) result ≡ host_at hosts.entry.now end }
 {
@@ -38,7 +38,8 @@ fn host_at(hosts: &[NamedHost], end: End) -> Option<&NamedHost>
     }
 }
 
-/// Returns the address for a question. `Refused` if the question goes to a target in memory.
+/// Returns the address for a question. `Refused`, with the line of the question, if it goes to a target in memory, or
+/// to a place where there is no host; `Memory` if no memory is found.
 fn address_for(hosts: &[NamedHost], asked_question: &AskedQuestion) -> Result<Bytes, WorldError>
     ensures { FindResult (address_for hosts.now) asked_question.now result }
 {

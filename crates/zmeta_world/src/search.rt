@@ -92,7 +92,8 @@ pub fn dotted_syntax(text: &[u8]) -> &[u8]
     }
 }
 
-/// Reads the query, if there is a text.
+/// Reads the query, if there is a text. Returns `Query`, with the mistake and its octet, if the text is no query in
+/// prefix notation, and `Memory` if no memory is found.
 fn read_query(alloc: Global, text: Option<&[u8]>) -> Result<Option<Query>, SearchError>
     ensures { ReadQueryResult (option_map (λ text. text.now) text.entry) result }
 {
@@ -115,7 +116,8 @@ fn error_of(error: PqfError) -> SearchError
     }
 }
 
-/// Reads the wanted positions, if there is a text.
+/// Reads the wanted positions, if there is a text. Returns `Records` if the text is none of positions, and `Memory` if
+/// no memory is found.
 fn read_records(alloc: Global, text: Option<&[u8]>) -> Result<Option<Seq<Range>>, SearchError>
     ensures { ReadRecordsResult (option_map (λ text. text.now) text.entry) result }
 {
@@ -139,7 +141,8 @@ fn read_elements(alloc: Global, text: Option<&[u8]>) -> Result<Option<Bytes>, Al
     }
 }
 
-/// Reads the record syntax, if there is a text.
+/// Reads the record syntax, if there is a text. Returns `Syntax` if the text is none of a syntax, and `Memory` if no
+/// memory is found.
 fn read_syntax(alloc: Global, text: Option<&[u8]>) -> Result<Option<Option<Oid>>, SearchError>
     ensures { ReadSyntaxResult (option_map (λ text. text.now) text.entry) result }
 {

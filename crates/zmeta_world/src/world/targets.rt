@@ -114,7 +114,7 @@ impl Model for OpenDatabase {
     ghost view = { λ o. o.before.items ++ database o.name (list_of o.entries) ∷ [] };
 }
 
-/// Closes the last database, and returns all databases.
+/// Ends the last database, so that it gets no more entries, and returns all databases.
 fn closed_databases(alloc: Global, had: Option<OpenDatabase>) -> Result<Vec<Database>, AllocError>
     ensures { IfOk result (λ databases. databases.items ≡ list_of had) }
 {
@@ -183,7 +183,7 @@ impl Model for OpenTarget {
     ghost invariant = { λ o. o.names.keys ≡ database_names (list_of o.databases) };
 }
 
-/// Closes the last target, and returns all targets.
+/// Ends the last target, so that it gets no more databases, and returns all targets.
 pub(crate) fn closed_targets(
     alloc: Global,
     had: Option<OpenTarget>,
