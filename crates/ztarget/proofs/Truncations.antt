@@ -1,4 +1,5 @@
--- The words that begin with one stand next to each other in an index, and their places are those where a word begins with it.
+-- The words that begin with one stand next to each other in an index, and their places are those where a word begins
+-- with it.
 use Rattle.std.proofs.Common.{◌≡◌, refl, sym, ◌∙◌, ap, subst, inl, inr, ℕ, ◌+◌, ◌<◌, List, [], ◌∷◌, ◌++◌, Bool, true, false, ◌&&◌, cond, nat_eq, Some, if◌then◌else◌, unwrap_or, append_assoc, arith}
 use mathlib.Core.Path.{fun_ext}
 use Rattle.std.proofs.lemmas.Bool.{true≢false, ne_eqb, and_parts}
