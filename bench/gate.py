@@ -3,8 +3,8 @@
 
     bench/gate.py CORES [CHECKS]     (as many checks at a time as the Makefile has, if left out)
 
-It starts what is ready, proofs and tests before must-fail edits, and of these what has the most lines behind it, as rt ci
-does. Each check has one job, and checks share the cores evenly. With -v it prints what goes on beside what.
+It starts what is ready, proofs and tests before must-fail edits, and of these what has the most lines behind it, as rt
+ci does. Each check has one job, and checks share the cores evenly. With -v it prints what goes on beside what.
 """
 import os
 import re
@@ -47,7 +47,8 @@ def tasks(of):
     """Each task: what it waits for, its seconds, and its lines; those of a crate after those of the crates below it."""
     made = {}
     table = read("docs/GATE.md").partition("## By crate")[2].partition("\n## ")[0]
-    rows = {row[1]: [int(re.sub(r"\D", "", it) or 0) for it in row[2].split("|")] for row in re.finditer(r"^\| `(\w+)` \|(.*)\|$", table, re.M)}
+    rows = {row[1]: [int(re.sub(r"\D", "", it) or 0) for it in row[2].split("|")]
+            for row in re.finditer(r"^\| `(\w+)` \|(.*)\|$", table, re.M)}
     for name in sorted(of, key=lambda it: len(below(it, of))):
         proof, tests, edits, _, edit, _ = rows[name]
         waits = [(it, "proof") for it in of[name]]
@@ -98,7 +99,8 @@ def main():
     made = tasks(crates())
     whole = sum(it[1] for it in made.values())
     took = play(made, cores, checks, "-v" in sys.argv)
-    print(f"{took / 60:.0f} minutes on {cores} cores with {checks} checks at a time; {whole / 60:.0f} minutes of a processor")
+    side = f"{cores} cores with {checks} checks at a time"
+    print(f"{took / 60:.0f} minutes on {side}; {whole / 60:.0f} minutes of a processor")
 
 
 main()

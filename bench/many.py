@@ -1,6 +1,6 @@
 #!/usr/bin/env python3
-"""Measures `zmeta ask --at-once` of many hosts with slow replies, over sockets of one machine: the seconds that it takes, and those of
-the processor.
+"""Measures `zmeta ask --at-once` of many hosts with slow replies, over sockets of one machine: the seconds that it
+takes, and those of the processor.
 
     bench/many.py [PROGRAM]      (once zmeta is built; PROGRAM, or ZMETA, is the path of another build)
 
@@ -18,7 +18,7 @@ from functools import partial
 TOP = os.path.dirname(os.path.dirname(os.path.abspath(__file__)))
 sys.path.insert(0, f"{TOP}/tests/program")
 
-from hosts import Host, one_by_one
+from peers import Host, one_by_one
 
 # how many hosts, and how many records of each: with Init, the search and Close, each gives three replies more
 ROWS = ((100, 2), (400, 2), (1600, 2), (200, 100))

@@ -1,6 +1,7 @@
 #!/usr/bin/env python3
 """Measures decoding and `zmeta show` beside libyaz, on the same messages: bench/measure.py [FOLDER], at the top of the
-repository, once `rt run` has built crates/zmeta/out/zmeta. Files go to FOLDER (none: a new one in /tmp). README.md says more."""
+repository, once `rt run` has built crates/zmeta/out/zmeta. Files go to FOLDER (none: a new one in /tmp). README.md says
+more."""
 
 import os
 import re
@@ -66,7 +67,8 @@ def milliseconds(command, path, runs=20):
 
 
 def each(measured, command_of, path):
-    """What one pass over the messages takes: three passes less one, halved, so that the start and the reading fall out."""
+    """What one pass over the messages takes: three passes less one, halved, so that the start and the reading fall
+    out."""
     return (measured(command_of(3), path) - measured(command_of(1), path)) / 2
 
 

@@ -1,7 +1,7 @@
 #!/usr/bin/perl
-# Swallows connections: swallow.pl PORT listens at this port of 127.0.0.1, and takes none. One connection of its own fills the queue.
-# So the system drops each packet that begins another, as a dead host does. It prints a line once the queue is full, and
-# goes on until it is killed.
+# Swallows connections: swallow.pl PORT listens at this port of 127.0.0.1, and takes none. One connection of its own
+# fills the queue. So the system drops each packet that begins another, as a dead host does. It prints a line once the
+# queue is full, and goes on until it is killed.
 use strict;
 use warnings;
 use Socket;

@@ -3,8 +3,9 @@
 
     bench/titles.py [RECORDS]       (100,000 if not said; once zmeta is built, or with its path in ZMETA)
 
-Prints the least times of five runs each, and the memory. The status is 1 if the view takes a second and a half of processor time more
-than the list. The records are made by tests/program/marc_made.py, each with a number in its title, at the positions of ten catalogues."""
+Prints the least times of five runs each, and the memory. The status is 1 if the view takes a second and a half of
+processor time more than the list. The records are made by tests/program/marc_made.py, each with a number in its title,
+at the positions of ten catalogues."""
 
 import os
 import subprocess
@@ -40,7 +41,8 @@ def record(number):
         [
             ("001", b"%08d" % number), ("008", marc_made.coded(1900 + number % 100)),
             ("020", marc_made.field("  ", f"a{number:010d} (hbk.)")),
-            ("100", marc_made.field("1 ", b"a" + maker)), ("245", marc_made.field("10", b"aNumber %d, " % number + title, b"c" + maker)),
+            ("100", marc_made.field("1 ", b"a" + maker)),
+            ("245", marc_made.field("10", b"aNumber %d, " % number + title, b"c" + maker)),
             ("260", marc_made.field("  ", "aNew York :", "bA publisher,", f"cc{1900 + number % 100}.")),
             ("300", marc_made.field("  ", "axi, 231 p. :")),
             *[("650", subject)] * 5,
@@ -52,7 +54,8 @@ def record(number):
 def write_files(room, count):
     """A saved file of so many records, and one of the names alone, which `join` takes beside it."""
     names = [f"catalogue {it}" for it in range(CATALOGUES)]
-    seen = [(saved.SEEN, it % CATALOGUES, 1, it // CATALOGUES + 1, saved.record(saved.MARC21, record(it))) for it in range(count)]
+    seen = [(saved.SEEN, it % CATALOGUES, 1, it // CATALOGUES + 1, saved.record(saved.MARC21, record(it)))
+            for it in range(count)]
     counts = [(saved.COUNT, it, 1, count // CATALOGUES) for it in range(CATALOGUES)]
     for name, facts in (("known.saved", counts + seen), ("names.saved", [])):
         with open(os.path.join(room, name), "wb") as file:
@@ -61,7 +64,8 @@ def write_files(room, count):
 
 
 def measured(room, *words):
-    """The least seconds of the runs, on the clock and of the processor, the kilobytes of memory, and the octets printed."""
+    """The least seconds of the runs, on the clock and of the processor, the kilobytes of memory, and the octets
+    printed."""
     clock = processor = float("inf")
     out = os.path.join(room, "out")
     for _ in range(RUNS):
@@ -85,7 +89,8 @@ def main(count="100000"):
         print(f"The load of the last minute is {os.getloadavg()[0]:.1f} on {os.cpu_count()} processors.\n")
         print("| `zmeta join` | seconds | of the processor | memory | octets printed |\n|---|---|---|---|---|")
         taken = []
-        for label, words in (("the list", ()), ("the list, `--hex`", ("--hex",)), ("the view, `--titles`", ("--titles",))):
+        for label, words in (("the list", ()), ("the list, `--hex`", ("--hex",)),
+                             ("the view, `--titles`", ("--titles",))):
             clock, processor, kilobytes, printed = measured(room, "join", *words, "known.saved", "names.saved")
             taken.append(processor)
             print(f"| {label} | {clock:.2f} | {processor:.2f} | {kilobytes / 1000:.0f} MB | {printed:,} |", flush=True)

@@ -1,5 +1,6 @@
 #!/usr/bin/env python3
-"""Asks catalogues with `zmeta ask --json`, and prints the year, the title and the author of each record, or how many octets it has.
+"""Asks catalogues with `zmeta ask --json`, and prints the year, the title and the author of each record, or how many
+octets it has.
 
     python3 examples/ask.py FILE [OPTIONS]       for example: ask.py catalogues --at-once --title dune
 

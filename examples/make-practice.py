@@ -1,6 +1,6 @@
 #!/usr/bin/env python3
-"""Writes practice.world and practice-tuesday.world beside this script: two catalogues of books to practise with, and one
-of them a day later.
+"""Writes practice.world and practice-tuesday.world beside this script: two catalogues of books to practise with, and
+one of them a day later.
 
 The records are MARC 21 in ISO 2709, some in UTF-8 and some in MARC-8. To change a book, change it here and run the
 script again. Do not edit the files: a record says how many octets each of its fields has.

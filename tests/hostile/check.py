@@ -1,6 +1,6 @@
 #!/usr/bin/env python3
-"""Sends zmeta what strangers may send, and sees that it neither crashes nor hangs: each run has to end with a status of its own, within
-100 milliseconds of processor time for each message, or in one of five runs more.
+"""Sends zmeta what strangers may send, and sees that it neither crashes nor hangs: each run has to end with a status of
+its own, within 100 milliseconds of processor time for each message, or in one of five runs more.
 
     tests/hostile/check.py                              (once zmeta is built, or with its path in ZMETA)
     tests/hostile/check.py --show 1000 --ask 1000 --serve 100 --great 0 --seed 7
@@ -9,8 +9,10 @@ Great messages are to take a second of processor time for each million octets.
 
 - show: damaged messages on standard input, one a run
 - great: whole messages of nearly 2 MB on standard input, of as many parts of one kind as they hold
-- ask: damaged replies of hosts, in random pieces: a run asks 200 hosts at once, and each of them damages one of its replies
-- serve: connections of which two in three break off, send garbage, or trickle octets, and each third has to be answered as ever
+- ask: damaged replies of hosts, in random pieces: a run asks 200 hosts at once, and each of them damages one of its
+  replies
+- serve: connections of which two in three break off, send garbage, or trickle octets, and each third has to be answered
+  as ever
 
 All is drawn from the seed. Prints a line for each part, and what went wrong; the status is 1 then.
 """
@@ -29,6 +31,11 @@ import threading
 import time
 
 ROOT = os.path.dirname(os.path.dirname(os.path.dirname(os.path.abspath(__file__))))
+sys.path.insert(0, os.path.join(ROOT, "tests/program"))
+
+import peers  # noqa: E402
+import saved  # noqa: E402
+
 ZMETA = os.environ.get("ZMETA", os.path.join(ROOT, "crates/zmeta/out/zmeta"))
 WORLD = os.path.join(ROOT, "examples/libraries.world")
 NAME = "city library"
@@ -42,7 +49,8 @@ AGAIN = 5
 def messages():
     """The encodings of APDUs that the repository keeps, of all kinds."""
     with open(os.path.join(ROOT, "crates/zapdu_tests/src/apdus.rt"), encoding="utf-8") as file:
-        return [bytes.fromhex(row) for row in re.findall(r"^\s*(?:r#\")?([0-9a-f]{10,}) (?:\w+Re\w+|close) ", file.read(), re.M)]
+        return [bytes.fromhex(row)
+                for row in re.findall(r"^\s*(?:r#\")?([0-9a-f]{10,}) (?:\w+Re\w+|close) ", file.read(), re.M)]
 
 
 # ---- damage
@@ -150,14 +158,9 @@ SIZE = 2_000_000
 PIECE = 1_000_000
 
 
-def header(tag, size):
-    many = (size.bit_length() + 7) // 8
-    return bytes.fromhex(tag) + (bytes([size]) if size < 128 else bytes([0x80 | many]) + size.to_bytes(many, "big"))
-
-
 def element(tag, *parts):
-    contents = b"".join(parts)
-    return header(tag, len(contents)) + contents
+    """An element with these identifier octets, in hexadecimal digits."""
+    return saved.element(bytes.fromhex(tag), *parts)
 
 
 def number(n):
@@ -212,18 +215,29 @@ def diagnostic(n):
 
 DATABASE = element("9f69", b"d")
 DUNE = element("9f2d", b"dune")
+
+
+def search_by(attributes, term_of=DUNE):
+    """A search by one operand."""
+    return search_request(DATABASE, query(term(attributes, term_of)))
+
+
+def records_of(*records):
+    return present_response(element("bc", *records))
+
+
 GREAT = {
-    "attributes of an operand": lambda: search_request(DATABASE, query(term(filled(attribute), DUNE))),
-    "equal attributes of an operand": lambda: search_request(DATABASE, query(term(filled(lambda n: attribute(1)), DUNE))),
+    "attributes of an operand": lambda: search_by(filled(attribute)),
+    "equal attributes of an operand": lambda: search_by(filled(lambda n: attribute(1))),
     "databases": lambda: search_request(filled(lambda n: element("9f69", number(n))), query(term(b"", DUNE))),
     "operands": lambda: search_request(DATABASE, query(operands())),
-    "segments of a term": lambda: search_request(DATABASE, query(term(b"", element("bf2d", filled(lambda n: element("04", b"d")))))),
-    "records": lambda: present_response(element("bc", filled(lambda n: record(element("81", number(n)))))),
-    "equal records": lambda: present_response(element("bc", filled(lambda n: record(element("81", b"r"))))),
-    "octets of a record": lambda: present_response(element("bc", record(element("81", bytes(SIZE))))),
-    "elements of a record": lambda: present_response(element("bc", record(element("a0", element("30", filled(lambda n: element("05"))))))),
+    "segments of a term": lambda: search_by(b"", element("bf2d", filled(lambda n: element("04", b"d")))),
+    "records": lambda: records_of(filled(lambda n: record(element("81", number(n))))),
+    "equal records": lambda: records_of(filled(lambda n: record(element("81", b"r")))),
+    "octets of a record": lambda: records_of(record(element("81", bytes(SIZE)))),
+    "elements of a record": lambda: records_of(record(element("a0", element("30", filled(lambda n: element("05")))))),
     "diagnostics": lambda: present_response(element("bf814d", filled(diagnostic))),
-    "arcs of a syntax": lambda: present_response(element("bc", record(element("81", b"r"), bytes([42]) + bytes([1]) * SIZE))),
+    "arcs of a syntax": lambda: records_of(record(element("81", b"r"), bytes([42]) + bytes([1]) * SIZE)),
 }
 
 
@@ -247,27 +261,18 @@ def listener():
     return it, it.getsockname()[1]
 
 
-def free_port():
-    it, port = listener()
-    it.close()
-    return port
-
-
 def serve(port, count):
     return subprocess.Popen([ZMETA, "serve", f"127.0.0.1:{port}", NAME, WORLD, str(count)],
                             stdout=subprocess.DEVNULL, stderr=subprocess.PIPE)
 
 
+def without_delay(link):
+    link.setsockopt(socket.IPPROTO_TCP, socket.TCP_NODELAY, 1)
+
+
 def connected(port):
-    """A connection, once one is taken there."""
-    for _ in range(100):
-        try:
-            it = socket.create_connection(("127.0.0.1", port), timeout=PATIENCE)
-            it.setsockopt(socket.IPPROTO_TCP, socket.TCP_NODELAY, 1)
-            return it
-        except ConnectionRefusedError:
-            time.sleep(0.05)
-    raise SystemExit(f"hostile: nobody listens at port {port}")
+    """A connection, once one is taken there. What is sent over it is not held back."""
+    return peers.connected(port, without_delay)
 
 
 def host_file(room, ports):
@@ -282,7 +287,7 @@ def host_file(room, ports):
 
 def recorded(room):
     """Requests and replies of a session of `zmeta ask` with `zmeta serve`, one for the other."""
-    server_port = free_port()
+    server_port = peers.free_port()
     server = serve(server_port, 1)
     there = connected(server_port)
     door, port = listener()
@@ -315,7 +320,7 @@ def in_pieces(draw, octets):
 def answer_one(draw, taken, exchanges):
     """Answers one connection, and damages one reply."""
     worst = draw.randrange(len(exchanges))
-    taken.setsockopt(socket.IPPROTO_TCP, socket.TCP_NODELAY, 1)
+    without_delay(taken)
     taken.settimeout(PATIENCE)
     try:
         for number, (_, reply) in enumerate(exchanges[:worst + 1]):
@@ -363,7 +368,8 @@ def ask(count, seed):
     with concurrent.futures.ProcessPoolExecutor(jobs) as pool:
         answers = list(pool.map(ask_some, *zip(*parts)))
     longest = max(answer[0] for answer in answers)
-    print(f"ask: {runs * HOSTS} hosts with a damaged reply each, {HOSTS} a run, the longest {1000 * longest:.0f} ms", flush=True)
+    count = f"{runs * HOSTS} hosts with a damaged reply each, {HOSTS} a run"
+    print(f"ask: {count}, the longest {1000 * longest:.0f} ms", flush=True)
     return [line for answer in answers for line in answer[1]]
 
 
@@ -420,10 +426,11 @@ def serving(count, seed):
     draw = random.Random(f"{seed} serve")
     with tempfile.TemporaryDirectory() as room:
         exchanges = recorded(room)
-    port = free_port()
+    port = peers.free_port()
     server = serve(port, count)
     start = time.monotonic()
-    wrong = [f"serve: connection {number} is not answered" for number in range(count) if not meet(draw, port, exchanges, number)]
+    wrong = [f"serve: connection {number} is not answered" for number in range(count)
+             if not meet(draw, port, exchanges, number)]
     status = server.wait(PATIENCE)
     taken = time.monotonic() - start
     print(f"serve: {count} connections in {taken:.0f} s", flush=True)
@@ -434,7 +441,8 @@ def main():
     asks = argparse.ArgumentParser(description="Sends zmeta what strangers may send.")
     asks.add_argument("--show", type=int, default=1000000, metavar="N", help="damaged messages on standard input")
     asks.add_argument("--ask", type=int, default=1000000, metavar="N", help="damaged replies of hosts")
-    asks.add_argument("--great", type=int, default=1, metavar="N", help="whether messages of nearly 2 MB are shown: 0 or 1")
+    asks.add_argument("--great", type=int, default=1, metavar="N",
+                      help="whether messages of nearly 2 MB are shown: 0 or 1")
     asks.add_argument("--serve", type=int, default=10000, metavar="N", help="connections to a server")
     asks.add_argument("--seed", default="1")
     given = asks.parse_args()

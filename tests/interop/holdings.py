@@ -1,5 +1,6 @@
 #!/usr/bin/env python3
-"""Prints the copies of OPAC records, a line for each of their fields, as the standard names it (Z39.50-2003, Appendix REC).
+"""Prints the copies of OPAC records, a line for each of their fields, as the standard names it (Z39.50-2003, Appendix
+REC).
 
     tests/interop/holdings.py yaz FILE       what yaz-client printed for `format opac` and `show`
     tests/interop/holdings.py json FILE      what zmeta printed with --json"""
@@ -12,7 +13,8 @@ FLAGS = ("availableNow", "renewable", "onHold")
 
 
 def by_yaz(lines):
-    """A line for each field of each copy. A copy begins at `Data holdings`, a volume or a circulation record at its number."""
+    """A line for each field of each copy. A copy begins at `Data holdings`, a volume or a circulation record at its
+    number."""
     is_copy = False
     for line in lines:
         word, _, value = line.rstrip("\n").partition(": ")

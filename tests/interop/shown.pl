@@ -1,6 +1,7 @@
 #!/usr/bin/env perl
-# Reads records in MARCXML, as yaz-marcdump writes them of records in MARC 21, and prints the view for readers that is due of them:
-# from field 245 the title, from 100, 110 or 111 the main heading where 245 has no $c, from 020 the ISBN, from 264, 260 or 008 the year.
+# Reads records in MARCXML, as yaz-marcdump writes them of records in MARC 21, and prints the view for readers that is
+# due of them: from field 245 the title, from 100, 110 or 111 the main heading where 245 has no $c, from 020 the ISBN,
+# from 264, 260 or 008 the year.
 #
 #     yaz-marcdump -f MARC-8 -t UTF-8 -o marcxml FILE | shown.pl NAME COUNT
 use strict;
@@ -64,4 +65,5 @@ my @records = do { local $/; <STDIN> } =~ m{<record.*?</record>}gs;
 printf "%s: %d found, %d shown\n\n", $name, $count, scalar @records;
 my $width = length scalar @records;
 my $number = 0;
-printf "  %${width}d  %s  %-4s  %s\n", ++$number, $name, year($_), join ' ', title($_), maker($_), isbn($_) for @records;
+printf "  %${width}d  %s  %-4s  %s\n", ++$number, $name, year($_), join ' ', title($_), maker($_), isbn($_)
+    for @records;

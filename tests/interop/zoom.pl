@@ -1,7 +1,7 @@
 #!/usr/bin/perl
-# Asks a server by Perl's ZOOM: zoom.pl ADDRESS DATABASE SYNTAX QUERY COUNT. Prints the number of hits, then the octets of the
-# first COUNT records in hexadecimal, a line each: `diag CONDITION` in the place of a record that cannot be shown. SYNTAX may
-# be -. Records of MARC are as libyaz writes them anew from what it reads in them.
+# Asks a server by Perl's ZOOM: zoom.pl ADDRESS DATABASE SYNTAX QUERY COUNT. Prints the number of hits, then the octets
+# of the first COUNT records in hexadecimal, a line each: `diag CONDITION` in the place of a record that cannot be
+# shown. SYNTAX may be -. Records of MARC are as libyaz writes them anew from what it reads in them.
 use strict;
 use warnings;
 use ZOOM;

@@ -2,8 +2,8 @@
 """Says whether each wrong body still changes a text that stands: each `old:` once in its file.
 
 Those of tests/mutants and tests/program/gives-up are tried only on demand (by the script check beside them), and one of
-crates/*/must-fail that changes nothing fails nothing, so a changed name could leave one that tries nothing. The status is 1 where a text is gone or
-stands twice.
+crates/*/must-fail that changes nothing fails nothing, so a changed name could leave one that tries nothing. The status
+is 1 where a text is gone or stands twice.
 """
 import pathlib
 import sys
@@ -38,7 +38,8 @@ def main():
     faults = [f"{edit.relative_to(TOP)}: {fault}" for edit, name in edits for fault in faults_of(edit, name)]
     for fault in faults:
         print(f"mutants: {fault}", file=sys.stderr)
-    print(f"mutants: {len(edits)} wrong bodies change a text that stands" if not faults else f"mutants: {len(faults)} faults")
+    told = f"{len(faults)} faults" if faults else f"{len(edits)} wrong bodies change a text that stands"
+    print(f"mutants: {told}")
     return 1 if faults or not edits else 0
 
 

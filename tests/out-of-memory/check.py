@@ -1,12 +1,13 @@
 #!/usr/bin/env python3
-"""Refuses each allocation of the program's runs, and of tests, in turn, and looks at what they answer then: it alone, with the next, and
-with all that follow.
+"""Refuses each allocation of the program's runs, and of tests, in turn, and looks at what they answer then: it alone,
+with the next, and with all that follow.
 
-A run has to end with status 4, `out of memory` and nothing printed, or as it does with ample memory. One that saves a file may have printed
-all, and leaves the older file as it is, or saves. A test has to tell that it wants memory while it makes itself ready, and from then on to pass: what
-it tests asks again where memory was refused, and has to answer the same.
+A run has to end with status 4, `out of memory` and nothing printed, or as it does with ample memory. One that saves a
+file may have printed all, and leaves the older file as it is, or saves. A test has to tell that it wants memory while
+it makes itself ready, and from then on to pass: what it tests asks again where memory was refused, and has to answer
+the same.
 
-    python3 tests/out-of-memory/check.py       (once the program and the vectors are built; ZMETA may name another build)
+    python3 tests/out-of-memory/check.py     (once the program and the vectors are built; ZMETA may name another build)
 """
 
 import os
@@ -41,12 +42,14 @@ RUNS = [
     (["join", "tests/out-of-memory/four.saved", "tests/out-of-memory/four.saved"], None),
     (["join", "tests/out-of-memory/four.saved", "tests/out-of-memory/five.saved"], None),
     (["records", "examples/monday.saved", "examples/tuesday.saved"], None),
-    # the view for readers: records of MARC 21 and UNIMARC with letters of MARC-8 and UTF-8, SUTRS, a conflict, two counts, refusals
+    # the view for readers: records of MARC 21 and UNIMARC with letters of MARC-8 and UTF-8, SUTRS, a conflict, two
+    # counts, refusals
     (["run", "--titles", "--save", SAVED, "tests/out-of-memory/titles.world"], None),
     (["join", "--titles", "tests/out-of-memory/titles-one.saved", "tests/out-of-memory/titles-two.saved"], None),
     # lines of JSON, one search for all, and the records of one catalogue
     (["join", "--json", "tests/out-of-memory/titles-one.saved", "tests/out-of-memory/titles-two.saved"], None),
-    (["run", "--title", "dune", "--author", "herbert", "--records", "1", "--syntax", "marc21", "examples/libraries.world"], None),
+    (["run", "--title", "dune", "--author", "herbert", "--records", "1", "--syntax", "marc21",
+      "examples/libraries.world"], None),
     (["records", "--only", "library", "--syntax", "marc21", "examples/monday.saved"], None),
     # wrong words, and help
     (["run"], None),
@@ -74,17 +77,19 @@ def content(path):
 
 
 def run(room, words, file, first, last):
-    """Runs a program with allocations refused (none where the last is 0): its status, both outputs, and the saved file, if it saves one;
-    and its allocations."""
+    """Runs a program with allocations refused (none where the last is 0): its status, both outputs, and the saved file,
+    if it saves one; and its allocations."""
     count, saved = (os.path.join(room, f"{name}-{threading.get_ident()}") for name in ("count", "saved"))
     saves = SAVED in words
     if saves:
         with open(saved, "wb") as older:
             older.write(OLDER)
     words = [saved if it == SAVED else it for it in words]
-    surroundings = dict(os.environ, LD_PRELOAD=os.path.join(room, "refuse.so"), REFUSE=str(first), LAST=str(last), COUNT=count)
+    surroundings = dict(os.environ, LD_PRELOAD=os.path.join(room, "refuse.so"), REFUSE=str(first), LAST=str(last),
+                        COUNT=count)
     with open(os.path.join(ROOT, file) if file else os.devnull, "rb") as given:
-        ran = subprocess.run(words, stdin=given, capture_output=True, env=surroundings, cwd=ROOT, timeout=60, close_fds=False)
+        ran = subprocess.run(words, stdin=given, capture_output=True, env=surroundings, cwd=ROOT, timeout=60,
+                             close_fds=False)
     return (ran.returncode, ran.stdout, ran.stderr, content(saved) if saves else None), int(content(count))
 
 
@@ -130,7 +135,8 @@ def main():
     failed = 0
     with tempfile.TemporaryDirectory() as room:
         source = os.path.join(ROOT, "tests/out-of-memory/refuse.c")
-        subprocess.run(["cc", "-O2", "-shared", "-fPIC", "-o", os.path.join(room, "refuse.so"), source, "-ldl"], check=True)
+        subprocess.run(["cc", "-O2", "-shared", "-fPIC", "-o", os.path.join(room, "refuse.so"), source, "-ldl"],
+                       check=True)
         for fault in [look_at_run(room, *it) for it in RUNS] + [look_at_test(room, *it) for it in TESTS]:
             if fault:
                 print(fault)

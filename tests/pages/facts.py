@@ -9,8 +9,8 @@ from saved import BIB1, COUNT, DIAG, FAILED, MARC21, SEEN, SUTRS, diagnostic, of
 ROOT = os.path.dirname(os.path.dirname(os.path.dirname(os.path.abspath(__file__))))
 HEADING = "Novels, 28 November"
 
-ELEMENTS = """html head meta title style body main h1 h2 section div table thead tbody tr th td ul li meter strong details
-summary""".split()
+ELEMENTS = """html head meta title style body main h1 h2 section div table thead tbody tr th td ul li meter strong
+details summary""".split()
 ATTRIBUTES = "lang charset http-equiv name content class id scope value max role tabindex aria-labelledby".split()
 
 # what strangers put into a name, a title and other places
@@ -66,8 +66,8 @@ def practice_books():
 
 
 def write_practice(path):
-    """Three catalogues: one has all records; of the next one is refused, two that differ stand at a position, and others
-    are missing; one refuses the search."""
+    """Three catalogues: one has all records; of the next one is refused, two that differ stand at a position, and
+    others are missing; one refuses the search."""
     facts = [(COUNT, 0, 1, 5), (COUNT, 1, 1, 9), (FAILED, 2, 1)]
     facts += [(SEEN, 0, 1, at, record(MARC21, it, "books")) for at, it in enumerate(practice_books()[:5], 1)]
     facts += [

@@ -1,14 +1,16 @@
 #!/usr/bin/env python3
-"""Runs the program on rows, whole views, worlds, mutilated records, large input, hosts, a terminal, and streams that fail or are slow,
-talks to its server, and compares what it prints with what is due; and the completions of command lines with rows and with its help.
+"""Runs the program on rows, whole views, worlds, mutilated records, large input, hosts, a terminal, and streams that
+fail or are slow, talks to its server, and compares what it prints with what is due; and the completions of command lines
+with rows and with its help.
 
     python3 tests/program/check.py       (once the program is built; ZMETA may name another build)
 
-A row has the words of a command line, with `|` between them, and the input behind `<`. Behind `=>` stand the status, standard output
-and standard error, with `>` between them. `%` and two digits stand for one octet, `=FILE` for the octets of that file, `-` for none.
-One more `>` is followed by a file that the run makes, and one with the same octets. A row of words has the status behind `=>`, and the
-beginning of the text: on standard output if the status is 0, else on standard error. A row of `full` begins with the stream that fails.
-The files are those of tests/program/files, and `folder` is a folder."""
+A row has the words of a command line, with `|` between them, and the input behind `<`. Behind `=>` stand the status,
+standard output and standard error, with `>` between them. `%` and two digits stand for one octet, `=FILE` for the
+octets of that file, `-` for none. One more `>` is followed by a file that the run makes, and one with the same octets.
+A row of words has the status behind `=>`, and the beginning of the text: on standard output if the status is 0, else on
+standard error. A row of `full` begins with the stream that fails. The files are those of tests/program/files, and
+`folder` is a folder."""
 
 import os
 import re
@@ -46,6 +48,8 @@ MUTILATED = 5000
 COPIED = 5000
 JSON_WORLDS, JSON_FACTS = 3000, 20000
 SEED = 1
+# the tables of rows, but those of completions
+TABLES = "show pqf join records worlds search json help full explained words".split()
 
 
 def octets_of(name):
@@ -64,7 +68,8 @@ def meant(text):
 
 
 def run(room, words, given=b""):
-    """The status of a command in a folder, what it prints, and what it tells. Its help has the name by which it is called."""
+    """The status of a command in a folder, what it prints, and what it tells. Its help has the name by which it is
+    called."""
     ran = subprocess.run(["zmeta", *words], executable=ZMETA, input=given, capture_output=True, cwd=room, timeout=60)
     return ran.returncode, ran.stdout, ran.stderr
 
@@ -117,8 +122,8 @@ def nested(operators):
 
 
 def response(records):
-    """A Present response with so many records of 3,000 octets, and what is printed of it. Each element that holds elements has an
-    indefinite length, as many servers send them."""
+    """A Present response with so many records of 3,000 octets, and what is printed of it. Each element that holds
+    elements has an indefinite length, as many servers send them."""
     record = b"3080 800164 A180 A180 2880 06072A8648CE13050A 81820BB8" + b"41" * 3000 + b"0000 0000 0000 0000\n"
     front = b"B980 820400000002 9801%02X990100 9B0100 BC80" % records
     lines = b'  rec 1.2.840.10003.5.10 "d" "%s"\n' % (b"A" * 3000) * records
@@ -152,7 +157,7 @@ def main():
     with tempfile.TemporaryDirectory() as room, ThreadPoolExecutor(len(os.sched_getaffinity(0))) as pool:
         shutil.copytree(FILES, room, dirs_exist_ok=True)
         os.mkdir(os.path.join(room, "folder"))
-        for table in ("show", "pqf", "join", "records", "worlds", "search", "json", "help", "full", "explained", "words"):
+        for table in TABLES:
             look = fault_of_words if table == "words" else fault_of_row
             rows = rows_of(table)
             faults += [it for it in pool.map(lambda row: look(room, row), rows) if it]
@@ -188,7 +193,8 @@ def main():
         print(f"program: {len(views.ALL)} whole views")
         faults += faults_of_large(room)
         made = [*worlds.made(octets_of)]
-        faults += [it for it in pool.map(lambda it: fault_of_world(room, *it), [(number, *it) for number, it in enumerate(made)]) if it]
+        numbered = [(number, *it) for number, it in enumerate(made)]
+        faults += [it for it in pool.map(lambda it: fault_of_world(room, *it), numbered) if it]
         print(f"program: {len(made)} worlds")
         made = [*wide.made()]
         faults += [it for it in pool.map(lambda it: wide.fault_of(ZMETA, room, *it), enumerate(made)) if it]

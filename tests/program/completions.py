@@ -1,4 +1,5 @@
-"""Completes command lines by install/zmeta.bash, and compares what is offered with rows and with the options of the help."""
+"""Completes command lines by install/zmeta.bash, and compares what is offered with rows and with the options of the
+help."""
 
 import os
 import re
@@ -14,7 +15,8 @@ SCRIPT = '. "$1"; COMP_WORDS=("${@:2}"); COMP_CWORD=$(($# - 2)); _zmeta 2> /dev/
 def offered(room, words):
     """What bash completes in a folder: the last word is typed so far."""
     file = os.path.join(INSTALL, "zmeta.bash")
-    ran = subprocess.run(["bash", "--norc", "-c", SCRIPT, "bash", file, *words], capture_output=True, cwd=room, timeout=60)
+    words = ["bash", "--norc", "-c", SCRIPT, "bash", file, *words]
+    ran = subprocess.run(words, capture_output=True, cwd=room, timeout=60)
     return sorted(ran.stdout.decode().split())
 
 

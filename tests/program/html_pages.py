@@ -1,7 +1,7 @@
 #!/usr/bin/env python3
-"""Reads the pages that `--html` prints by Python's HTML parser, and compares them with the JSON of the same facts: each record has its row,
-with its year, title, author and ISBN, and with its lines of `--fields` behind the title. The rows of catalogues add up. A page has no
-element that runs or loads something, and its policy names its style sheet.
+"""Reads the pages that `--html` prints by Python's HTML parser, and compares them with the JSON of the same facts: each
+record has its row, with its year, title, author and ISBN, and with its lines of `--fields` behind the title. The rows
+of catalogues add up. A page has no element that runs or loads something, and its policy names its style sheet.
 
     ZMETA=PROGRAM python3 tests/program/html_pages.py"""
 
@@ -29,13 +29,14 @@ ASKED = (
     ["join", "empty", "empty"],
 )
 TAGS = set(
-    "html head meta title style body main h1 h2 section div table thead tbody tr th td ul li meter strong details summary".split()
+    "html head meta title style body main h1 h2 section div table thead tbody tr th td ul li meter strong details "
+    "summary".split()
 )
 
 
 class Page(html.parser.HTMLParser):
-    """Of each class of rows the texts of their cells, and the lines that a reader opens; the heading, the style sheet, and the tags and
-    attributes that stand there."""
+    """Of each class of rows the texts of their cells, and the lines that a reader opens; the heading, the style sheet,
+    and the tags and attributes that stand there."""
 
     def __init__(self, text):
         super().__init__(convert_charrefs=True)

@@ -1,6 +1,7 @@
 #!/usr/bin/env python3
-"""Compares what `--json` prints with the list, line by line: for the random worlds of worlds.py, many to a file, and for saved files
-with facts of every kind. Each line has to be the text that Python's json writes, and to be read back by it.
+"""Compares what `--json` prints with the list, line by line: for the random worlds of worlds.py, many to a file, and
+for saved files with facts of every kind. Each line has to be the text that Python's json writes, and to be read back by
+it.
 
     ZMETA=zmeta python3 tests/program/json_lines.py WORLDS FACTS SEED
 
@@ -165,7 +166,8 @@ def fault_of(zmeta, room, name, contents, words):
     with open(os.path.join(room, name), "wb") as file:
         file.write(contents)
     listed, printed = (
-        subprocess.run([zmeta, *words, option], capture_output=True, cwd=room, timeout=60) for option in ("--hex", "--json")
+        subprocess.run([zmeta, *words, option], capture_output=True, cwd=room, timeout=60)
+        for option in ("--hex", "--json")
     )
     if (listed.returncode, listed.stderr) != (printed.returncode, printed.stderr) or listed.stderr:
         return f"{words}: {listed.returncode} {listed.stderr}, {printed.returncode} {printed.stderr}"
@@ -192,7 +194,8 @@ def files_of_worlds(number):
 
 # saved files
 
-TEXTS = (b"", b"a", b'"\\/', b"\x00\x1f\x7f\x80", b"caf\xe9 ", b"\xe2\x82\"", b"\xed\xa0\x80\xc0\x80\xf4\x90\x80\x80", "Дюна \u2028😀".encode())
+TEXTS = (b"", b"a", b'"\\/', b"\x00\x1f\x7f\x80", b"caf\xe9 ", b"\xe2\x82\"", b"\xed\xa0\x80\xc0\x80\xf4\x90\x80\x80",
+         "Дюна \u2028😀".encode())
 SYNTAXES = (saved.MARC21, saved.UNIMARC, saved.SUTRS, "2.100.3", "1.2.840.10003.5.105")
 RECORDS = (*marc_made.MARC21_RECORDS, *marc_made.UNIMARC_RECORDS)
 KINDS = (saved.COUNT, saved.FAILED, saved.DIAG, saved.SEEN, saved.SEEN, saved.SEEN)
@@ -203,7 +206,9 @@ PLACES = (0, 0, 1, 11, 2**63 - 1)
 
 
 def octets(dice):
-    return dice.choice(TEXTS) + dice.randbytes(dice.randrange(5)) if dice.randrange(2) else dice.randbytes(dice.randrange(200))
+    if dice.randrange(2):
+        return dice.choice(TEXTS) + dice.randbytes(dice.randrange(5))
+    return dice.randbytes(dice.randrange(200))
 
 
 def syntax(dice):

@@ -1,19 +1,21 @@
 #!/usr/bin/env python3
-"""Runs each command on large input: no contract says when memory is found, so a body that gives up for want of it shows here alone.
+"""Runs each command on large input: no contract says when memory is found, so a body that gives up for want of it shows
+here alone.
 
     ZMETA=PROGRAM python3 tests/program/large.py          (all commands)
     ZMETA=PROGRAM python3 tests/program/large.py show     (this one)
 
-`show` reads two million digits. The others have 100,000 records of one catalogue each, and `join` prints 200,000 rows, of which standard
-output takes 16 octets at a time. `gives-up` has a wrong body for each command, which its row here finds."""
+`show` reads two million digits. The others have 100,000 records of one catalogue each, and `join` prints 200,000 rows,
+of which standard output takes 16 octets at a time. `gives-up` has a wrong body for each command, which its row here
+finds."""
 
 import os
-import socket
 import subprocess
 import sys
 import tempfile
 import time
 
+from peers import connected, free_port
 from saved import COUNT, MARC21, SEEN, element, of_facts, record
 
 # a run has to end within so many seconds
@@ -116,31 +118,20 @@ def loop(zmeta, room):
     yield from world_in_memory(zmeta, room, "loop")
 
 
-def free_port():
-    with socket.create_server(("127.0.0.1", 0)) as it:
-        return it.getsockname()[1]
-
-
-def listens(port):
-    """Waits until a connection is taken there."""
-    for _ in range(600):
-        try:
-            socket.create_connection(("127.0.0.1", port)).close()
-            return
-        except OSError:
-            time.sleep(0.05)
-
-
 def ask(zmeta, room):
     """`serve` and `ask`: the server takes two connections, of which the first only shows that it listens."""
     served = made(room, "served.world", b"target a 1048576 cn\ndb d\n" + entries())
     port = free_port()
     asked = made(room, "asked.world", b"step 1000\nhost a 127.0.0.1:%d\nask a d - %d dune\n" % (port, RECORDS))
-    server = subprocess.Popen([zmeta, "serve", f"127.0.0.1:{port}", "a", served, "2"], cwd=room, stderr=subprocess.PIPE)
-    listens(port)
-    found = run(zmeta, room, ["ask", "--save", "ask.saved", asked])
-    yield from due_of_world(room, found, "ask.saved")
-    yield (server.wait(MOST), server.stderr.read()), (0, b"")
+    words = [zmeta, "serve", f"127.0.0.1:{port}", "a", served, "2"]
+    with subprocess.Popen(words, cwd=room, stderr=subprocess.PIPE) as server:
+        try:
+            connected(port, most=MOST).close()
+            found = run(zmeta, room, ["ask", "--save", "ask.saved", asked])
+            yield from due_of_world(room, found, "ask.saved")
+            yield (server.wait(MOST), server.stderr.read()), (0, b"")
+        finally:
+            server.kill()
 
 
 COMMANDS = {"show": show, "pqf": pqf, "join": join, "records": records, "run": run_world, "loop": loop, "ask": ask}

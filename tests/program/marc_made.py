@@ -20,8 +20,8 @@ def octets_of(text):
 
 
 def made(fields, coding="a", lengths=(4, 5, 0), indicators=2):
-    """A record of these fields, each a tag and its octets without the terminator. `coding` is position 9 of the leader; `lengths` are
-    those of a directory entry's parts behind the tag."""
+    """A record of these fields, each a tag and its octets without the terminator. `coding` is position 9 of the leader;
+    `lengths` are those of a directory entry's parts behind the tag."""
     directory, data = b"", b""
     for tag, octets in fields:
         length = len(octets) + 1
@@ -29,7 +29,8 @@ def made(fields, coding="a", lengths=(4, 5, 0), indicators=2):
         data += octets + END
     base = 24 + len(directory) + 1
     size = base + len(data) + 1
-    leader = digits(size, 5) + f"nam {coding}{indicators}2".encode() + digits(base, 5) + b" a " + digits(int("%d%d%d" % lengths), 3) + b"0"
+    kinds = f"nam {coding}{indicators}2".encode()
+    leader = digits(size, 5) + kinds + digits(base, 5) + b" a " + digits(int("%d%d%d" % lengths), 3) + b"0"
     return leader + directory + END + data + RECORD_END
 
 
@@ -51,41 +52,51 @@ MARC21_RECORDS = [
     made([("001", b"ocm00000042"), ("008", coded("1965")), ("020", field("  ", "a0801950775 (hbk.)", "c$5.95")),
           ("020", field("  ", "a9780441013593")), ("100", field("1 ", "aHerbert, Frank,", "d1920-1986.")),
           ("245", field("10", "aDune /", "cFrank Herbert.")), ("250", field("  ", "a1st ed.")),
-          ("260", field("  ", "aPhiladelphia :", "bChilton Books,", "c[1965]")), ("650", field(" 0", "aDune (Imaginary place)"))]),
+          ("260", field("  ", "aPhiladelphia :", "bChilton Books,", "c[1965]")),
+          ("650", field(" 0", "aDune (Imaginary place)"))]),
     made([("008", coded("1866")), ("100", field("1 ", "aДостоевский, Ф. М.", "6880-01")),
           ("245", field("10", "aПреступление и наказание :", "bроман в шести частях /", "cФ. М. Достоевский.")),
           ("264", field(" 1", "aМосква :", "bНаука,", "c1970")), ("020", field("  ", "a978-5-02-012345-6"))]),
     made([("245", field("00", "aΟδύσσεια /", "cΌμηρος ; μετάφραση Γ. Ψυχουντάκη.")), ("264", field(" 4", "c©1979"))]),
-    made([("100", field("1 ", "aעוז, עמוס.")), ("245", field("10", "aסיפור על אהבה וחושך")), ("260", field("  ", "cתשס״ב 2002"))]),
-    made([("100", field("1 ", "a川端康成")), ("245", field("10", "a雪国 /", "c川端康成著.")), ("260", field("  ", "c昭和22 [1947]"))]),
+    made([("100", field("1 ", "aעוז, עמוס.")), ("245", field("10", "aסיפור על אהבה וחושך")),
+          ("260", field("  ", "cתשס״ב 2002"))]),
+    made([("100", field("1 ", "a川端康成")), ("245", field("10", "a雪国 /", "c川端康成著.")),
+          ("260", field("  ", "c昭和22 [1947]"))]),
     # decomposed, and beyond what one character has
     made([("245", field("10", "aE\u0301tude o\u0302\u0301 d\u0323\u0307 /", "cAntoni\u0301n Dvor\u030ca\u0301k"))]),
     # a title without a name: the main headings in turn, the first of them empty
     made([("100", field("1 ", "a")), ("110", field("2 ", "aLibrary of Congress.", "bCopyright Office")),
           ("111", field("2 ", "aWorkshop on Images")),
           ("245", field("10", "aAnnual report", "n2. part,", "pFigures")), ("008", coded("19uu"))]),
-    made([("111", field("2 ", "aInternational Congress of Libraries", "n(3rd :")), ("245", field("10", "aProceedings", "h[sound recording]"))]),
+    made([("111", field("2 ", "aInternational Congress of Libraries", "n(3rd :")),
+          ("245", field("10", "aProceedings", "h[sound recording]"))]),
     # dates: of the manufacture; the first that has four digits; the coded one
-    made([("245", field("00", "aMap of the bay")), ("260", field("  ", "c[n.d.]", "g(1911 printing)")), ("008", coded("1912", "1915"))]),
+    made([("245", field("00", "aMap of the bay")), ("260", field("  ", "c[n.d.]", "g(1911 printing)")),
+          ("008", coded("1912", "1915"))]),
     made([("260", field("  ", "c1980")), ("264", field(" 1", "c1981")), ("245", field("00", "aReprint"))]),
-    made([("264", field(" 1", "cMCMLXX")), ("264", field(" 4", "cc20011999")), ("245", field("00", "aTwo dates", "b")), ("008", coded("1970"))]),
+    made([("264", field(" 1", "cMCMLXX")), ("264", field(" 4", "cc20011999")), ("245", field("00", "aTwo dates", "b")),
+          ("008", coded("1970"))]),
     made([("245", field("04", "a\x98The \x9cbook of sand /", "cJ. L. Borges")), ("008", coded("|975"))]),
     # ISBNs without a number, and of one field of several
     made([("020", field("  ", "a(pbk.)")), ("020", field("  ", "z0131103628")), ("020", field("  ", "a 0131103628")),
           ("020", field("  ", "a99921-58-10-7:", "a0131103628")), ("245", field("10", "aA title", "cA maker"))]),
     # MARC-8
-    made([("008", coded("1929")), ("100", field("1 ", b"aD\xe8oblin, Alfred,")), ("245", field("10", "aBerlin Alexanderplatz")),
+    made([("008", coded("1929")), ("100", field("1 ", b"aD\xe8oblin, Alfred,")),
+          ("245", field("10", "aBerlin Alexanderplatz")),
           ("260", field("  ", "aBerlin,", "c1929."))], coding=" "),
     made([("245", field("10", b"aDvo\xe9r\xe2ak :", b"b\xb1\xf1 \xa1 \xa2 \xb5 \xc7 \xc8 \xb2 na\xe8\xf2ive /",
                         b"cT\xebi\xecu\xe1a \xfaa\xfbb"))], coding=" "),
     made([("100", field("1 ", b"aDostoevski\xe6i, Fyodor")),
-          ("245", field("10", b"a\x1b(NpRESTUPLENIE I NAKAZANIE\x1b(B :", b"broman /", b"c\x1b$1!0@!1A\x1b(B."))], coding=" "),
-    made([("245", field("10", b"aH\x1bb2\x1bsO and \x1bga\x1bs-rays", b"b\x88The \x89end")), ("260", field("  ", b"c\xc31987"))], coding=" "),
+          ("245", field("10", b"a\x1b(NpRESTUPLENIE I NAKAZANIE\x1b(B :", b"broman /", b"c\x1b$1!0@!1A\x1b(B."))],
+         coding=" "),
+    made([("245", field("10", b"aH\x1bb2\x1bsO and \x1bga\x1bs-rays", b"b\x88The \x89end")),
+          ("260", field("  ", b"c\xc31987"))], coding=" "),
     # UTF-8 that the leader does not tell, and that it tells wrongly
     made([("245", field("10", "aŒuvres complètes /", "cMolière"))], coding=" "),
     made([("245", field("10", b"aD\xe8oblin \xff\xc3"))], coding="a"),
     # fields before others, and again; subfields without a code, or with one of its own kind
-    made([("245", field("10", "a", "aSecond $a", "cfirst", "csecond") + DELIMITER), ("245", field("10", "aAnother title"))]),
+    made([("245", field("10", "a", "aSecond $a", "cfirst", "csecond") + DELIMITER),
+          ("245", field("10", "aAnother title"))]),
     made([("245", b"aNo indicators" + DELIMITER + b"aTitle" + DELIMITER + DELIMITER + b"bx")]),
     made([("245", field("10", "aOther lengths /", "cof a directory")), ("008", coded("1984"))], lengths=(3, 4, 2)),
     made([("245", field("10", "aLong parts")), ("260", field("  ", "c2024"))], lengths=(5, 6, 0)),
@@ -95,16 +106,22 @@ MARC21_RECORDS = [
     made([]),
 ]
 UNIMARC_RECORDS = [
-    made([("001", b"FRBNF39131232"), ("010", field("  ", "a2-07-036822-X", "bbr.", "d5,20 EUR")), ("100", general("1942")),
+    made([("001", b"FRBNF39131232"), ("010", field("  ", "a2-07-036822-X", "bbr.", "d5,20 EUR")),
+          ("100", general("1942")),
           ("200", field("1 ", "aL'étranger", "eroman", "fAlbert Camus", "gpréface de Jean-Paul Sartre")),
-          ("210", field("  ", "aParis", "cGallimard", "d1971")), ("700", field(" |", "aCamus", "bAlbert"))], coding=" "),
-    made([("100", general("1937")), ("200", field("1 ", "aКапитанская дочка")), ("700", field(" 1", "aПушкин", "bА. С.")),
+          ("210", field("  ", "aParis", "cGallimard", "d1971")), ("700", field(" |", "aCamus", "bAlbert"))],
+         coding=" "),
+    made([("100", general("1937")), ("200", field("1 ", "aКапитанская дочка")),
+          ("700", field(" 1", "aПушкин", "bА. С.")),
           ("214", field(" 0", "aМосква", "d1937")), ("210", field("  ", "d1938"))], coding=" "),
     made([("010", field("  ", "z123")), ("010", field("  ", "a960-03-1234-5")), ("100", general("1999")),
-          ("710", field("02", "aΕθνική Βιβλιοθήκη")), ("200", field("1 ", "aΚατάλογος", "e", "gepimeleia"))], coding=" "),
+          ("710", field("02", "aΕθνική Βιβλιοθήκη")), ("200", field("1 ", "aΚατάλογος", "e", "gepimeleia"))],
+         coding=" "),
     # in ISO 5426: only ASCII is read
-    made([("100", general("1899", "01  ")), ("200", field("1 ", b"a\x88L'\x89\xc2etranger", b"fA. Camus"))], coding=" "),
-    made([("100", general("19..", "0103")), ("200", field("1 ", "aPlain title", "f", "gsomeone")), ("700", field(" 1", "aLast name"))], coding=" "),
+    made([("100", general("1899", "01  ")), ("200", field("1 ", b"a\x88L'\x89\xc2etranger", b"fA. Camus"))],
+         coding=" "),
+    made([("100", general("19..", "0103")), ("200", field("1 ", "aPlain title", "f", "gsomeone")),
+          ("700", field(" 1", "aLast name"))], coding=" "),
     made([("100", field("  ", "atoo short")), ("200", field("1 ", "a\x98Le \x9crouge et le noir", "fStendhal")),
           ("210", field("  ", "d[s.d.]", "dcop. 1830"))], coding=" "),
 ]
@@ -136,14 +153,18 @@ INSERTED = [
     b"\x1b(N", b"\x1b$1", b"\x1b(B", b"\x1bs", b"\x1bg", b"\x1b", b"\x1b(", b"\x1b\x1b", b"\x1b)!E",
     b"\xe2", b"\xe8\xf2", b"\xeb", b"\xec", b"\xfb", b"\xff", b"\x8d",
     # what is no UTF-8: cut, too long, surrogates, beyond the last character
-    b"\xc3", b"\xe2\x82", b"\xc0\xaf", b"\xe0\x80\x80", b"\xed\xa0\x80", b"\xf4\x90\x80\x80", b"\xf0\x9f\x98", b"\x80", b"\xfe",
+    b"\xc3", b"\xe2\x82", b"\xc0\xaf", b"\xe0\x80\x80", b"\xed\xa0\x80", b"\xf4\x90\x80\x80", b"\xf0\x9f\x98", b"\x80",
+    b"\xfe",
     # controls, marks of direction, what nobody sees, marks for sorting
     b"\0", b"\x07", b"\x08", b"\t", b"\n", b"\r", b"\x7f", b"\x9b2J",
     "\x85".encode(), "\x9b".encode(), "\x98".encode(), "\x9c".encode(), b"\x88", b"\x89",
-    "\u202e".encode(), "\u202a".encode(), "\u2066".encode(), "\u2069".encode(), "\u200e".encode(), "\u200f".encode(), "\u061c".encode(),
-    "\u200b".encode(), "\ufeff".encode(), "\u2028".encode(), "\u2029".encode(), "\u200d".encode(), "\ufffe".encode(), "\U0001f4d6".encode(),
+    "\u202e".encode(), "\u202a".encode(), "\u2066".encode(), "\u2069".encode(), "\u200e".encode(), "\u200f".encode(),
+    "\u061c".encode(),
+    "\u200b".encode(), "\ufeff".encode(), "\u2028".encode(), "\u2029".encode(), "\u200d".encode(), "\ufffe".encode(),
+    "\U0001f4d6".encode(),
     # marks that are combined with what stands before them, in no order; Hangul and what is composed no more
-    "\u0301".encode(), "\u0323\u0307".encode(), "\u0307\u0323".encode(), "\u0345".encode(), "\u1100\u1161\u11a8".encode(), "\u212b".encode(),
+    "\u0301".encode(), "\u0323\u0307".encode(), "\u0307\u0323".encode(), "\u0345".encode(),
+    "\u1100\u1161\u11a8".encode(), "\u212b".encode(),
     "\u0958".encode(), "\ufb1d".encode(),
     # the octets that hold a record together
     END, RECORD_END, DELIMITER, DELIMITER + b"a", DELIMITER + b"c1999", b" ", b"1234", b"12345678",
@@ -187,7 +208,8 @@ def with_something_in_its_data(dice, octets):
 def with_another_leader(dice, octets):
     """Changes the length, base address, entry map or character coding in the leader."""
     at, other = dice.choice((
-        (0, digits(dice.randrange(100000), 5)), (12, digits(base_of(octets) + dice.randrange(-15, 16), 5)), (12, digits(dice.randrange(2000), 5)),
+        (0, digits(dice.randrange(100000), 5)), (12, digits(base_of(octets) + dice.randrange(-15, 16), 5)),
+        (12, digits(dice.randrange(2000), 5)),
         (12, b"     "), (9, b" "), (9, b"a"), (10, b"00"), (20, b"    "),
         (20, bytes([dice.randrange(48, 58)])), (21, bytes([dice.randrange(48, 58)])),
         (22, bytes([dice.randrange(48, 58)])), (20, b"000"), (20, b"999"),
@@ -196,14 +218,17 @@ def with_another_leader(dice, octets):
 
 
 def with_another_entry(dice, octets):
-    """Changes a directory entry: its tag, or its length or start to a wrong number, no number or that of another entry."""
+    """Changes a directory entry: its tag, or its length or start to a wrong number, no number or that of another
+    entry."""
     count = max((base_of(octets) - 25) // 12, 1)
     at, from_at = (24 + 12 * dice.randrange(count) for _ in range(2))
     offset, other = dice.choice((
         (0, dice.choice(TAGS)), (0, bytes(dice.randrange(32, 127) for _ in range(3))),
         (3, digits(dice.randrange(80), 4)), (3, digits(dice.randrange(10000), 4)),
-        (7, digits(dice.randrange(300), 5)), (7, digits(dice.randrange(100000), 5)), (3, b"00x0"), (7, b"    0"), (3, b"0000"),
-        (3, octets[from_at + 3 : from_at + 12]), (0, octets[from_at : from_at + 12]), (dice.randrange(12), END), (dice.randrange(12), b""),
+        (7, digits(dice.randrange(300), 5)), (7, digits(dice.randrange(100000), 5)), (3, b"00x0"), (7, b"    0"),
+        (3, b"0000"),
+        (3, octets[from_at + 3 : from_at + 12]), (0, octets[from_at : from_at + 12]), (dice.randrange(12), END),
+        (dice.randrange(12), b""),
     ))
     return replaced(octets, at + offset, len(other) if other else dice.randrange(13), other)
 
@@ -224,15 +249,19 @@ def without_some(dice, octets):
 def without_a_terminator(dice, octets):
     """Removes a terminator or delimiter, or replaces it by another octet."""
     places = [at for at, it in enumerate(octets) if it in b"\x1d\x1e\x1f"]
-    return replaced(octets, dice.choice(places), 1, dice.choice((b"", b" ", END, DELIMITER, RECORD_END))) if places else octets
+    if not places:
+        return octets
+    return replaced(octets, dice.choice(places), 1, dice.choice((b"", b" ", END, DELIMITER, RECORD_END)))
 
 
 def with_fields_anew(dice, octets):
-    """Another record, of titles and other fields that are shown, with inserted pieces among their words; the directory is right."""
+    """Another record, of titles and other fields that are shown, with inserted pieces among their words; the directory
+    is right."""
     fields = []
     for tag in [b"245", b"200", *dice.sample(TAGS, dice.randrange(4))]:
         pieces = [dice.choice("aaabcdefgnp").encode() + text_anew(dice) for _ in range(dice.randrange(1, 4))]
-        fields.append((tag.decode(), dice.choice((b"10", b"  ", b"1", b"")) + b"".join(DELIMITER + it for it in pieces)))
+        indicators = dice.choice((b"10", b"  ", b"1", b""))
+        fields.append((tag.decode(), indicators + b"".join(DELIMITER + it for it in pieces)))
     return made(fields, dice.choice(" a"))
 
 
@@ -242,8 +271,10 @@ def text_anew(dice):
 
 
 WAYS = (
-    with_octet, with_flipped_bit, cut_short, with_more, with_something_in_its_data, with_something_in_its_data, with_something_in_its_data,
-    with_another_leader, with_another_leader, with_another_entry, with_another_entry, with_another_entry, with_entries_over_and_over, without_some,
+    with_octet, with_flipped_bit, cut_short, with_more, with_something_in_its_data, with_something_in_its_data,
+    with_something_in_its_data,
+    with_another_leader, with_another_leader, with_another_entry, with_another_entry, with_another_entry,
+    with_entries_over_and_over, without_some,
     without_a_terminator, without_a_terminator, with_fields_anew, with_fields_anew, with_fields_anew,
 )
 

@@ -1,6 +1,6 @@
-"""An independent model of the view for readers and of the fields in lines of JSON: what the program shows of a record of ISO 2709 in
-MARC 21 or UNIMARC. It follows the
-standards and the description of the view in docs/FORMATS.md, and uses Python's own UTF-8 and normalization."""
+"""An independent model of the view for readers and of the fields in lines of JSON: what the program shows of a record
+of ISO 2709 in MARC 21 or UNIMARC. It follows the standards and the description of the view in docs/FORMATS.md, and uses
+Python's own UTF-8 and normalization."""
 
 import re
 import unicodedata
@@ -338,6 +338,6 @@ def rows(names, found):
 
 
 def view(names, counts, found):
-    """The view of records by position and target, each a syntax and octets. Several of one place stand in the order of the list.
-    The names are short and in ASCII."""
+    """The view of records by position and target, each a syntax and octets. Several of one place stand in the order of
+    the list. The names are short and in ASCII."""
     return "".join(it + "\n" for it in [*heads(names, counts, found), "", *rows(names, found)])

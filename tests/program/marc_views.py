@@ -3,8 +3,8 @@
 
     ZMETA=PROGRAM tests/program/marc_views.py COUNT SEED [FILE]
 
-The records are those of marc_made.py and COUNT mutilated ones, or the same of the MARC 21 records in FILE. The status is 1 if the views
-differ."""
+The records are those of marc_made.py and COUNT mutilated ones, or the same of the MARC 21 records in FILE. The status
+is 1 if the views differ."""
 
 import os
 import random
@@ -41,7 +41,8 @@ def write_halves(room, found, counts, dice):
                 halves[half].append((saved.SEEN, target, 1, position, saved.record(*it)))
     for name, half in zip(("one.saved", "two.saved"), halves):
         with open(os.path.join(room, name), "wb") as file:
-            file.write(saved.of_facts(NAMES, [(saved.COUNT, target, 1, count) for target, count in counts.items()] + half))
+            facts = [(saved.COUNT, target, 1, count) for target, count in counts.items()]
+            file.write(saved.of_facts(NAMES, facts + half))
 
 
 def faults(zmeta, room, records, seed):
@@ -50,19 +51,22 @@ def faults(zmeta, room, records, seed):
     found = placed(records, dice)
     counts = dict(enumerate((len(records), 1_000_000)))
     write_halves(room, found, counts, dice)
-    ran = subprocess.run([zmeta, "join", "--titles", "one.saved", "two.saved"], capture_output=True, cwd=room, timeout=600)
+    words = [zmeta, "join", "--titles", "one.saved", "two.saved"]
+    ran = subprocess.run(words, capture_output=True, cwd=room, timeout=600)
     if (ran.returncode, ran.stderr) != (0, b""):
         return [f"view: {ran.returncode} {ran.stderr}"]
     ours, theirs = (it.split("\n") for it in (ran.stdout.decode(), marc_model.view(NAMES, counts, found)))
     lines = enumerate(zip(ours, theirs), 1)
-    differing = [f"view, line {number}:\n    {one}\n    {other} by the model" for number, (one, other) in lines if one != other]
+    differing = [f"view, line {number}:\n    {one}\n    {other} by the model"
+                 for number, (one, other) in lines if one != other]
     if len(ours) != len(theirs):
         differing.append(f"view: {len(ours)} lines, {len(theirs)} by the model")
     return differing[:5]
 
 
 def records_of(file):
-    return [(saved.MARC21, it + marc_made.RECORD_END) for it in file.read().split(marc_made.RECORD_END) if it[:5].isdigit()]
+    return [(saved.MARC21, it + marc_made.RECORD_END) for it in file.read().split(marc_made.RECORD_END)
+            if it[:5].isdigit()]
 
 
 def main(count, seed, path=None):

@@ -16,6 +16,8 @@ import sys
 import tempfile
 import time
 
+from saved import element, integer
+
 TOP = os.path.dirname(os.path.dirname(os.path.dirname(os.path.abspath(__file__))))
 TREE = os.path.join(TOP, "examples/union/tree.mk")
 CASES = 150
@@ -26,41 +28,29 @@ SMALL = 100
 OLDER = b"an older file"
 
 
-def element(tag, contents):
-    count = len(contents)
-    if count < 128:
-        return bytes([tag, count]) + contents
-    length = count.to_bytes((count.bit_length() + 7) // 8, "big")
-    return bytes([tag, 0x80 | len(length)]) + length + contents
-
-
-def integer(tag, value):
-    return element(tag, value.to_bytes(value.bit_length() // 8 + 1, "big"))
-
-
 def names(count):
-    return element(0xA4, b"".join(element(0x80, b"catalogue %d" % it) for it in range(count)))
+    return element(b"\xa4", b"".join(element(b"\x80", b"catalogue %d" % it) for it in range(count)))
 
 
 def record(octets):
     """A record of MARC 21 as an EXTERNAL, without a database name."""
-    external = element(0x28, bytes.fromhex("06072a8648ce13050a") + element(0x81, octets))
-    return element(0x30, element(0xA1, element(0xA1, external)))
+    external = element(b"\x28", bytes.fromhex("06072a8648ce13050a") + element(b"\x81", octets))
+    return element(b"\x30", element(b"\xa1", element(b"\xa1", external)))
 
 
 def count_of(target, number, count):
-    octets = integer(0x80, target) + integer(0x81, number) + integer(0x82, count)
-    return (target, number, 0, count), element(0xA0, octets)
+    octets = integer(b"\x80", target) + integer(b"\x81", number) + integer(b"\x82", count)
+    return (target, number, 0, count), element(b"\xa0", octets)
 
 
 def failed(target, number):
-    return (target, number, 1), element(0xA1, integer(0x80, target) + integer(0x81, number))
+    return (target, number, 1), element(b"\xa1", integer(b"\x80", target) + integer(b"\x81", number))
 
 
 def seen(target, number, position, octets):
     value = record(octets)
-    place = integer(0x80, target) + integer(0x81, number) + integer(0x82, position)
-    return (target, number, position, value), element(0xA2, place + value)
+    place = integer(b"\x80", target) + integer(b"\x81", number) + integer(b"\x82", position)
+    return (target, number, position, value), element(b"\xa2", place + value)
 
 
 def key(fact):
@@ -175,8 +165,8 @@ def damaged_merges(zmeta, room):
 
 
 def run_measured(words):
-    """The status of a program, and the most KB that it had, as far as the system told while it ran. What the system tells
-    at its end counts the memory of the program that started it, too."""
+    """The status of a program, and the most KB that it had, as far as the system told while it ran. What the system
+    tells at its end counts the memory of the program that started it, too."""
     most = 0
     with subprocess.Popen(words) as child:
         while child.poll() is None:
@@ -209,7 +199,8 @@ def tree_merge(zmeta, room):
         write(os.path.join(room, f"leaf{number}"), saved(1, random_facts(dice, 1)))
     leaves = [f"leaf{number}" for number in range(9)]
     given = ["OUT=tree", f"PARTS={' '.join(leaves)}", f"ZMETA={zmeta}"]
-    ran = subprocess.run(["make", "--silent", "-j4", "-f", TREE, *given], cwd=room, capture_output=True, timeout=300, check=False)
+    ran = subprocess.run(["make", "--silent", "-j4", "-f", TREE, *given], cwd=room, capture_output=True, timeout=300,
+                         check=False)
     due = merge(zmeta, room, "flat", *leaves), octets_at(os.path.join(room, "flat"))
     if ran.returncode or due[0] != (0, b"", b"") or octets_at(os.path.join(room, "tree")) != due[1]:
         yield f"merging in a tree: {ran}, and {due} is due"

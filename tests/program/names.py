@@ -1,21 +1,20 @@
 #!/usr/bin/env python3
-"""Has the program ask hosts by name, and compares with what is due: what it prints and tells, how long it takes, and which names it
-looks up. Names have other addresses, and another name server, in a file system that only the program sees. Where that may not be made,
-nothing is run.
+"""Has the program ask hosts by name, and compares with what is due: what it prints and tells, how long it takes, and
+which names it looks up. Names have other addresses, and another name server, in a file system that only the program
+sees. Where that may not be made, nothing is run.
 
     ZMETA=PROGRAM python3 tests/program/names.py"""
 
 import asyncio
-import errno
 import os
 import socket
 import subprocess
 import sys
 import tempfile
 import time
-from contextlib import ExitStack
 
-from hosts import END, KINDS, STARTS, Host, answer_due, world_of
+from hosts import KINDS, STARTS
+from peers import END, Host, answer_due, fill, world_of
 
 # a name with an address that is silent, and one where a host listens; then names of which the name server says nothing
 TWICE = "twice.example"
@@ -38,23 +37,20 @@ def may_run():
     return made.returncode == 0
 
 
-def silent_address(port, held):
+def is_silent(port, held):
     """At the port, and at the address of IPv6, as many connections wait as may. Returns whether that is so."""
-    door = held.enter_context(socket.socket(socket.AF_INET6))
-    door.bind(("::1", port))
-    door.listen(0)
-    for _ in range(10):
-        caller = held.enter_context(socket.socket(socket.AF_INET6))
-        caller.setblocking(False)
-        caller.connect_ex(("::1", port))
-        time.sleep(0.05)
-        if caller.connect_ex(("::1", port)) == errno.EALREADY:
-            return True
-    return False
+    held.append(socket.socket(socket.AF_INET6))
+    held[-1].bind(("::1", port))
+    try:
+        fill(held[-1], held)
+    except RuntimeError:
+        return False
+    return True
 
 
 class NameServer(asyncio.DatagramProtocol):
-    """A name server that answers nothing: the names that it was asked for, each as often as the program had it looked up."""
+    """A name server that answers nothing: the names that it was asked for, each as often as the program had it looked
+    up."""
 
     def __init__(self):
         self.names = []
@@ -127,7 +123,7 @@ async def all_faults(zmeta, room, held):
     trial, live = Trial(zmeta, room), Host("live", ["a", "b"], *KINDS["whole"])
     await live.open()
     port = int(live.address.rsplit(":", 1)[1])
-    if not silent_address(port, held):
+    if not is_silent(port, held):
         return [], 0
     place, name = live.address, f"{TWICE}:{port}"
     found = []
@@ -139,7 +135,8 @@ async def all_faults(zmeta, room, held):
         other = Host("other", ["r"], 0, "Connect", None, [])
         other.address = name
         found += await trial.faults("IPv6 alone", [other], ("-6", "--connect", "1", *way), 1, 1.25)
-        # a host with an address in numbers is asked before names are looked up, each once, and none once the time for all is over
+        # a host with an address in numbers is asked before names are looked up, each once, and none once the time for
+        # all is over
         live.address = place
         lost = [unfound(it) for it in (SILENT[0], SILENT[1], SILENT[0], SILENT[2])]
         for number, it in enumerate(lost):
@@ -156,8 +153,12 @@ def faults(zmeta, room):
     """What is not as it should be, and how many runs there were: none if the machine lets none be made."""
     if not may_run():
         return [], 0
-    with ExitStack() as held:
+    held = []
+    try:
         return asyncio.run(all_faults(zmeta, room, held))
+    finally:
+        for it in held:
+            it.close()
 
 
 def main():

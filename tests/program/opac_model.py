@@ -1,5 +1,5 @@
-"""OPAC records (Z39.50-2003, Appendix REC: OPACRecord): makes random ones and damaged ones, reads them, and tells what the view and JSON
-show of their copies, and which octets `records` writes."""
+"""OPAC records (Z39.50-2003, Appendix REC: OPACRecord): makes random ones and damaged ones, reads them, and tells what
+the view and JSON show of their copies, and which octets `records` writes."""
 
 import base64
 
@@ -11,15 +11,19 @@ OPAC = "1.2.840.10003.5.102"
 # The fields of each production: tag, kind, and the name of its member in JSON, in the order of the standard
 VOLUME = ((1, "text", "enumeration"), (2, "text", "chronology"), (3, "text", "enumAndChron"))
 CIRCULATION = (
-    (1, "bool", "availableNow"), (2, "text", "availabilityDate"), (3, "text", "availableThru"), (4, "text", "restrictions"),
-    (5, "text", "itemId"), (6, "bool", "renewable"), (7, "bool", "onHold"), (8, "text", "enumAndChron"), (9, "text", "midspine"),
+    (1, "bool", "availableNow"), (2, "text", "availabilityDate"), (3, "text", "availableThru"),
+    (4, "text", "restrictions"),
+    (5, "text", "itemId"), (6, "bool", "renewable"), (7, "bool", "onHold"), (8, "text", "enumAndChron"),
+    (9, "text", "midspine"),
     (10, "text", "temporaryLocation"),
 )
 TEXTS = (
-    "typeOfRecord encodingLevel format receiptAcqStatus generalRetention completeness dateOfReport nucCode localLocation"
-    " shelvingLocation callNumber shelvingData copyNumber publicNote reproductionNote termsUseRepro enumAndChron"
+    "typeOfRecord encodingLevel format receiptAcqStatus generalRetention completeness dateOfReport nucCode"
+    " localLocation shelvingLocation callNumber shelvingData copyNumber publicNote reproductionNote termsUseRepro"
+    " enumAndChron"
 ).split()
-COPY = (*((tag, "text", name) for tag, name in enumerate(TEXTS, 1)), (18, VOLUME, "volumes"), (19, CIRCULATION, "circulationData"))
+COPY = (*((tag, "text", name) for tag, name in enumerate(TEXTS, 1)), (18, VOLUME, "volumes"),
+        (19, CIRCULATION, "circulationData"))
 
 
 # Reading
@@ -119,8 +123,8 @@ def number(contents):
 
 
 def external(contents):
-    """The syntax of an EXTERNAL; whether it has a syntax and octets alone; its octets, None if it has none; and what the view says of other
-    contents."""
+    """The syntax of an EXTERNAL; whether it has a syntax and octets alone; its octets, None if it has none; and what
+    the view says of other contents."""
     left, syntax, alone, other = elements(contents), None, True, None
     if left and left[0][0] == b"\x06":
         syntax = dotted(left.pop(0)[1])
@@ -148,8 +152,8 @@ def external(contents):
 
 
 def read(octets):
-    """The bibliographic record and the holdings of the element of an OPAC record, each None if it is absent. None if the element stands
-    for no such record."""
+    """The bibliographic record and the holdings of the element of an OPAC record, each None if it is absent. None if
+    the element stands for no such record."""
     try:
         ((identifier, contents),) = elements(octets)
         if identifier != b"\x30":
@@ -212,7 +216,8 @@ def told(record, holdings):
 
 
 def written(octets):
-    """The octets that are written for the element of an OPAC record, None if there are none, and the syntax that is compared."""
+    """The octets that are written for the element of an OPAC record, None if there are none, and the syntax that is
+    compared."""
     found = read(octets)
     if found is None:
         return None, OPAC
@@ -226,7 +231,10 @@ def written_of(records, asked):
     """What `records` writes of the elements of OPAC records on standard output, and what on standard error."""
     own = [written(it) for it in records]
     wanted = [octets for octets, syntax in own if None in (asked, syntax) or asked == syntax]
-    counts = ("records of another syntax", len(own) - len(wanted)), ("structured records (as OPAC and GRS-1)", wanted.count(None))
+    counts = (
+        ("records of another syntax", len(own) - len(wanted)),
+        ("structured records (as OPAC and GRS-1)", wanted.count(None)),
+    )
     lines = [f"zmeta: {what} left out: {count}\n" for what, count in counts if count]
     return b"".join(it for it in wanted if it is not None), "".join(lines).encode()
 
@@ -297,13 +305,15 @@ def lines(holdings):
             yield shown_copy(it)
         else:
             octets = it[0][2]
-            brief = "" if octets is None or marc_model.fields_of(octets) is None else marc_model.marc_entry(marc_model.Marc21, octets)[1]
+            is_marc = octets is not None and marc_model.fields_of(octets) is not None
+            brief = marc_model.marc_entry(marc_model.Marc21, octets)[1] if is_marc else ""
             yield joined(": ", "MARC holdings record", "" if brief.startswith("no title, ") else brief)
 
 
 # Making them
 
-CONTENTS = (b"", b"a", b"v.3", b"Copy 1", b"2026-12-01", "Главный зал".encode(), b'"\\\n', b"\xff\xfe", b"caf\xe9", "\u202eabc\x1b[2J".encode())
+CONTENTS = (b"", b"a", b"v.3", b"Copy 1", b"2026-12-01", "Главный зал".encode(), b'"\\\n', b"\xff\xfe", b"caf\xe9",
+            "\u202eabc\x1b[2J".encode())
 
 
 def made_text(dice):
@@ -315,12 +325,14 @@ def made_value(dice, tag, kind):
         return saved.element(bytes([0x80 + tag]), made_text(dice))
     if kind == "bool":
         return saved.element(bytes([0x80 + tag]), dice.choice((b"\0", b"\xff", b"\1")))
-    return saved.element(bytes([0xA0 + tag]), *(saved.element(b"\x30", made_fields(dice, kind, 2)) for _ in range(dice.randrange(4))))
+    return saved.element(bytes([0xA0 + tag]),
+                         *(saved.element(b"\x30", made_fields(dice, kind, 2)) for _ in range(dice.randrange(4))))
 
 
 def made_fields(dice, fields, odds):
     """Each BOOLEAN, and one in `odds` of the others."""
-    return b"".join(made_value(dice, tag, kind) for tag, kind, _ in fields if kind == "bool" or dice.randrange(odds) == 0)
+    return b"".join(made_value(dice, tag, kind)
+                    for tag, kind, _ in fields if kind == "bool" or dice.randrange(odds) == 0)
 
 
 def made_external(dice, tag, records):
@@ -329,7 +341,8 @@ def made_external(dice, tag, records):
     if dice.randrange(5) == 0:
         front = [it for it in (*front, b"\x02\x01\x03", saved.element(b"\x07", b"d")) if dice.randrange(2)]
     octets = saved.element(b"\x81", dice.choice(records) if dice.randrange(4) else made_text(dice))
-    others = octets, octets, octets, octets, saved.element(b"\xa0", saved.element(b"\x04", b"part")), saved.element(b"\x82", b"\x04\xf0")
+    single, bits = saved.element(b"\xa0", saved.element(b"\x04", b"part")), saved.element(b"\x82", b"\x04\xf0")
+    others = octets, octets, octets, octets, single, bits
     return saved.element(bytes([tag]), *front, dice.choice(others))
 
 
@@ -340,7 +353,8 @@ def made_holding(dice, records):
 
 
 def damaged(dice, octets):
-    """The same element with one element within it lost, twice there, of another tag, in another form, or with other contents."""
+    """The same element with one element within it lost, twice there, of another tag, in another form, or with other
+    contents."""
     found = elements(octets)
     at = dice.randrange(len(found))
     identifier, contents = found[at]
@@ -351,7 +365,8 @@ def damaged(dice, octets):
         # (the tag 00 ends contents, and stands in no file)
         tag = identifier[0] ^ 1 << dice.randrange(3)
         kinds = [], [found[at]] * 2, [(bytes([tag if tag & 0xDF else tag | 8]), contents)]
-        others = [(bytes([identifier[0] ^ 0x20]), b"" if identifier[0] & 0x20 else b"\x02\x01\x03")], [(identifier, b"")]
+        other = bytes([identifier[0] ^ 0x20]), b"" if identifier[0] & 0x20 else b"\x02\x01\x03"
+        others = [other], [(identifier, b"")]
         parts = found[:at] + dice.choice((*kinds, *others)) + found[at + 1 :]
     return b"".join(saved.element(*it) for it in parts)
 
@@ -359,6 +374,8 @@ def damaged(dice, octets):
 def made(dice, records):
     """An OPAC record with a bibliographic record of these, and one in four of them damaged."""
     record = [made_external(dice, 0xA1, records)] if dice.randrange(8) else []
-    copies = [saved.element(b"\xa2", *(made_holding(dice, records) for _ in range(dice.randrange(5))))] if dice.randrange(8) else []
+    copies = []
+    if dice.randrange(8):
+        copies.append(saved.element(b"\xa2", *(made_holding(dice, records) for _ in range(dice.randrange(5)))))
     parts = b"".join((*record, *copies))
     return saved.element(b"\x30", damaged(dice, parts) if parts and dice.randrange(4) == 0 else parts)

@@ -1,6 +1,6 @@
 #!/usr/bin/env python3
-"""Compares what the program prints of random OPAC records, some of them damaged, with opac_model.py: the view of `join --titles`, lines of
-JSON, and the records that `records` writes.
+"""Compares what the program prints of random OPAC records, some of them damaged, with opac_model.py: the view of `join
+--titles`, lines of JSON, and the records that `records` writes.
 
     ZMETA=PROGRAM tests/program/opac_views.py COUNT SEED
 
@@ -34,7 +34,8 @@ def faults_of_view(zmeta, room, records):
         return [f"view of copies: {status} {told}"]
     ours, theirs = (it.split("\n") for it in (printed.decode(), opac_model.view(NAME, FOUND, records)))
     lines = enumerate(zip(ours, theirs), 1)
-    differing = [f"view of copies, line {at}:\n    {one}\n    {other} by the model" for at, (one, other) in lines if one != other]
+    differing = [f"view of copies, line {at}:\n    {one}\n    {other} by the model"
+                 for at, (one, other) in lines if one != other]
     if len(ours) != len(theirs):
         differing.append(f"view of copies: {len(ours)} lines, {len(theirs)} by the model")
     return differing[:5]
@@ -45,7 +46,8 @@ def faults_of_records(zmeta, room, records):
         found, due = run(zmeta, room, "records", FILE, *words), (0, *opac_model.written_of(records, asked))
         if found != due:
             counts = f"{len(found[1])} octets, {len(due[1])} by the model"
-            yield f"records of copies {' '.join(words)}: {counts}\n    {found[0]} {found[2]}\n    {due[0]} {due[2]} by the model"
+            text = f"{found[0]} {found[2]}\n    {due[0]} {due[2]} by the model"
+            yield f"records of copies {' '.join(words)}: {counts}\n    {text}"
 
 
 def faults(zmeta, room, count, seed):
@@ -53,11 +55,13 @@ def faults(zmeta, room, count, seed):
     dice = random.Random(seed)
     records = [opac_model.made(dice, RECORDS) for _ in range(count)]
     seen = [
-        (saved.SEEN, 0, 1, place, saved.retrieved(opac_model.OPAC, saved.element(b"\xa0", it))) for place, it in enumerate(records, 1)
+        (saved.SEEN, 0, 1, place, saved.retrieved(opac_model.OPAC, saved.element(b"\xa0", it)))
+        for place, it in enumerate(records, 1)
     ]
     contents = saved.of_facts([NAME], [(saved.COUNT, 0, 1, FOUND), *seen])
     fault = json_lines.fault_of(zmeta, room, FILE, contents, ["join", FILE, FILE])
-    return [*([fault] if fault else []), *faults_of_view(zmeta, room, records), *faults_of_records(zmeta, room, records)]
+    return [*([fault] if fault else []), *faults_of_view(zmeta, room, records),
+            *faults_of_records(zmeta, room, records)]
 
 
 def main(count, seed):

@@ -1,17 +1,17 @@
 #!/usr/bin/env python3
-"""Has the program ask hosts whose replies it accepts or refuses, save what is known, and tell failures to a standard error that fails too.
-Compares the list, what is told of failed connections, what each host is sent, and the saved file, octet by octet.
+"""Has the program ask hosts whose replies it accepts or refuses, save what is known, and tell failures to a standard
+error that fails too. Compares the list, what is told of failed connections, what each host is sent, and the saved file,
+octet by octet.
 
     ZMETA=PROGRAM python3 tests/program/replies.py
 
-A row has a host's name, its replies, the requests that it is sent, what is known of it, and the reason that is told of it, if any.
-Requests are I, S, C, and Presents by their ranges: 1x2,4x1 are two records from 1 on and one at 4. What is known is a fact without its
-target, the position of its row in the list, if it has one, and the text of its line, if it has one of its own."""
+A row has a host's name, its replies, the requests that it is sent, what is known of it, and the reason that is told of
+it, if any. Requests are I, S, C, and Presents by their ranges: 1x2,4x1 are two records from 1 on and one at 4. What is
+known is a fact without its target, the position of its row in the list, if it has one, and the text of its line, if it
+has one of its own."""
 
 import asyncio
 import os
-import socket
-import struct
 import subprocess
 import sys
 import tempfile
@@ -20,13 +20,17 @@ from collections import namedtuple
 from concurrent.futures import ThreadPoolExecutor
 from functools import partial
 
-from hosts import ACCEPTED, BOTH, CLOSE, END, INIT, Host, Talk, Trials
-from hosts import address_of, all_together, broken_off, counted, faults_of_answer, listening, one_by_one, operation, present, search
-from saved import BIB1, COUNT, DIAG, FAILED, MARC21, SEEN, diagnostic, element, integer, object_identifier, of_facts, record, surrogate
-from streams import interrupt, make_narrow
+from peers import (
+    ACCEPTED, BOTH, CLOSE, END, INIT, Asker, Host, all_together, broken_off, counted, faults_of_answer, init_reply,
+    listening, narrow, non_surrogate, one_by_one, operation, present_at, reading_late, reset_in_advance, search_for,
+)
+from saved import (
+    BIB1, COUNT, DIAG, FAILED, MARC21, SEEN, diagnostic, element, integer, of_facts, record, surrogate,
+)
+from streams import interrupt
 
-# seconds between two interruptions, and for which a host reads nothing
-PAUSE, LATE = 0.01, 0.2
+# seconds between two interruptions
+PAUSE = 0.01
 
 hexadecimal = bytes.fromhex
 
@@ -72,28 +76,25 @@ REJECTED = (FAILED, 0), None, "set 0 failed"
 # replies
 
 
-def init(versions="830205e0", options="840301c006", result="8c01ff", reference="820400000000", more=b""):
-    return element(b"\xb5", hexadecimal(reference + versions + options + "8503100000 8603100000" + result), more)
-
-
 def found(count_octets, returned=0, reference="820400000001", status="9601ff", more=b""):
     """A Search response, with the octets of its count and the number of records that it tells of."""
     numbers = element(b"\x97", hexadecimal(count_octets)), integer(b"\x98", returned), hexadecimal("990101")
     return element(b"\xb7", hexadecimal(reference), *numbers, hexadecimal(status), more)
 
 
+def requested(position):
+    """The reference id of the Present that begins at the position."""
+    return operation(position + 1)
+
+
 def given(position, *texts, more=b""):
     """A Present response to the request that begins at the position, with records."""
-    return listed(operation(position), len(texts), [record(MARC21, it.encode()) for it in texts], more)
+    return listed(requested(position), len(texts), [record(MARC21, it.encode()) for it in texts], more)
 
 
 def listed(reference, returned, records, more=b""):
     records = element(b"\xbc", *records) if records else b""
     return element(b"\xb9", reference, integer(b"\x98", returned), hexadecimal("990100 9b0100"), records, more)
-
-
-def non_surrogate(condition, info=""):
-    return element(b"\xbf\x81\x02", object_identifier(BIB1), integer(b"\x02", condition), element(b"\x1a", info.encode()))
 
 
 def as_many(*diagnostics):
@@ -105,38 +106,15 @@ PLAIN, SEARCHES, NOTHING, SECOND = "840301c000", "84020780", "840100", "830206c0
 TWO = counted(2)
 ONE, OTHER = given(1, "r1"), given(2, "r2")
 # the same of position 1 in indefinite lengths, and of position 2 with a string in segments
-INDEFINITE = hexadecimal("b980 820400000002 980101 990102 9b0100 bc80 3015 a113 a111 2882000d 06072a8648ce13050a 81027231 0000 0000")
-SEGMENTED = hexadecimal("b92a 820400000003 980101 990103 9b0100 bc19 3017 a115 a113 2811 06072a8648ce13050a a106 040172 040132")
+INDEFINITE = hexadecimal(
+    "b980 820400000002 980101 990102 9b0100 bc80 3015 a113 a111 2882000d 06072a8648ce13050a 81027231 0000 0000"
+)
+SEGMENTED = hexadecimal(
+    "b92a 820400000003 980101 990103 9b0100 bc19 3017 a115 a113 2811 06072a8648ce13050a a106 040172 040132"
+)
 PART = element(b"\x30", element(b"\xa1", element(b"\xa3")))
 UNFOUND = {"count_octets": "00", "status": "960100 9a0103"}
 HUGE = 2**63 - 1
-
-
-async def resetting(talk):
-    """Breaks the connection off, so that reading fails."""
-    await talk.requests(1)
-    talk.stream.get_extra_info("socket").setsockopt(socket.SOL_SOCKET, socket.SO_LINGER, struct.pack("ii", 1, 0))
-    talk.stream.abort()
-
-
-async def reading_late(talk):
-    """Accepts, and reads nothing for a while, so that a long request waits in the program. Then gives a reply for each request."""
-    first, *others = talk.host.replies
-    talk.stream.pause_reading()
-    talk.stream.write(first)
-    await asyncio.sleep(LATE)
-    talk.stream.resume_reading()
-    for number, reply in enumerate(others, 2):
-        await talk.requests(number)
-        talk.stream.write(reply)
-
-
-async def narrow(host):
-    """A host that takes few octets which it has not read, and to which the system keeps few."""
-    door = socket.create_server(("127.0.0.1", 0))
-    make_narrow(door)
-    host.held.append(await asyncio.get_running_loop().create_server(lambda: Talk(host), sock=door))
-    return address_of(door)
 
 
 Row = namedtuple("Row", "name replies requests known told give set want term place",
@@ -169,21 +147,25 @@ GOOD = [
     whole("none", counted(0), known=[count(0)], requests="I S C"),
     whole("fewer", counted(1), ONE, known=all_seen(1, [1]), requests="I S 1x1 C"),
     whole("very many", counted(HUGE), ONE, OTHER, known=all_seen(HUGE, (1, 2))),
-    whole("surrogate", TWO, listed(operation(1), 1, [surrogate(BIB1, 14, "x")]), OTHER,
+    whole("surrogate", TWO, listed(requested(1), 1, [surrogate(BIB1, 14, "x")]), OTHER,
           known=[count(2), unseen(1, 14, "x"), seen(2, "r2")]),
-    whole("diagnostic", TWO, given(1, more=non_surrogate(13, "1")), OTHER, known=[count(2), noted(1, 13, "1"), seen(2, "r2")]),
-    whole("warning", found("02", more=non_surrogate(2)), ONE, OTHER, known=[count(2), noted(0, 2), seen(1, "r1"), seen(2, "r2")]),
+    whole("diagnostic", TWO, given(1, more=non_surrogate(13, "1")), OTHER,
+          known=[count(2), noted(1, 13, "1"), seen(2, "r2")]),
+    whole("warning", found("02", more=non_surrogate(2)), ONE, OTHER,
+          known=[count(2), noted(0, 2), seen(1, "r1"), seen(2, "r2")]),
     whole("unasked", found("02", 1, more=element(b"\xbc", record(MARC21, b"r0"))), ONE, OTHER,
           known=[count(2), *differing(1, "r0", "r1"), seen(2, "r2")]),
     whole("behind Close", TWO, ONE, OTHER, CLOSE, hexadecimal("04ff")),
-    # a request longer than what a host takes at a time; an Init response longer than a read; the end of the octets in place of Close; and
-    # no reference ids
+    # a request longer than what a host takes at a time; an Init response longer than a read; the end of the octets in
+    # place of Close; and no reference ids
     whole("long request", TWO, ONE, OTHER, give=reading_late, term="x" * 200_000, place=narrow),
-    Row("long name", [init(more=element(b"\x9f\x6f", b"n" * 5000)), TWO, ONE, OTHER, CLOSE], "I S 1x1 2x1 C", all_seen(2, (1, 2))),
+    Row("long name", [init_reply(more=element(b"\x9f\x6f", b"n" * 5000)), TWO, ONE, OTHER, CLOSE], "I S 1x1 2x1 C",
+        all_seen(2, (1, 2))),
     Row("ending", [ACCEPTED, TWO, ONE, OTHER], "I S 1x1 2x1 C", all_seen(2, (1, 2)), give=broken_off),
-    Row("without ids", [init(options=PLAIN, reference=""), found("02", reference=""), listed(b"", 1, [record(MARC21, b"r1")]),
-                        listed(b"", 1, [record(MARC21, b"r2")]), CLOSE], "I S 1x1 2x1 C", all_seen(2, (1, 2)), **PLAIN_SET),
-    Row("no Present", [init(options=SEARCHES), TWO, CLOSE], "I S C", [count(2)], **PLAIN_SET),
+    Row("without ids", [init_reply(options=PLAIN, reference=""), found("02", reference=""),
+                        listed(b"", 1, [record(MARC21, b"r1")]), listed(b"", 1, [record(MARC21, b"r2")]), CLOSE],
+        "I S 1x1 2x1 C", all_seen(2, (1, 2)), **PLAIN_SET),
+    Row("no Present", [init_reply(options=SEARCHES), TWO, CLOSE], "I S C", [count(2)], **PLAIN_SET),
 ]
 
 # The same of Presents of several ranges, or of one each below version 3; and of many that wait. An answer may be short.
@@ -193,15 +175,20 @@ ODD, FEWER = range(1, 220, 2), range(1, 160, 2)
 RANGED = [
     whole("ranges", counted(9), given(1, "r1", "r2"), given(4, "r4", "r5", "r9"), known=NINE,
           requests="I S 1x2,4x2,9x1 4x2,9x1 C", **WANTED),
-    Row("version 2", [init(SECOND), counted(9), given(9, "r9"), given(4, "r4"), given(1, "r1", "r2"), given(5, "r5"), CLOSE],
+    Row("version 2", [init_reply(SECOND), counted(9), given(9, "r9"), given(4, "r4"), given(1, "r1", "r2"),
+                      given(5, "r5"), CLOSE],
         "I S 1x2 4x2 9x1 5x1 C", NINE, **WANTED),
-    Row("one at a time", [init(SECOND, PLAIN), counted(9), given(1, "r1", "r2"), given(4, "r4"), given(5, "r5"), given(9, "r9"), CLOSE],
+    Row("one at a time", [init_reply(SECOND, PLAIN), counted(9), given(1, "r1", "r2"), given(4, "r4"), given(5, "r5"),
+                          given(9, "r9"), CLOSE],
         "I S 1x2 4x2 5x1 9x1 C", NINE, **WANTED, **PLAIN_SET),
-    whole("many ranges", counted(219), given(1, *(f"r{it}" for it in ODD[:50])), given(101, *(f"r{it}" for it in ODD[50:])),
+    whole("many ranges", counted(219), given(1, *(f"r{it}" for it in ODD[:50])),
+          given(101, *(f"r{it}" for it in ODD[50:])),
           requests="I S " + ",".join(f"{it}x1" for it in ODD) + " " + ",".join(f"{it}x1" for it in ODD[50:]) + " C",
           known=all_seen(219, ODD), want=",".join(f"{it}-{it}" for it in ODD)),
-    Row("many at a time", [init(SECOND), counted(159), *(given(it, f"r{it}") for it in [*FEWER[63::-1], *FEWER[64:]]), CLOSE],
-        "I S " + " ".join(f"{it}x1" for it in FEWER) + " C", all_seen(159, FEWER), want=",".join(f"{it}-{it}" for it in FEWER)),
+    Row("many at a time", [init_reply(SECOND), counted(159),
+                           *(given(it, f"r{it}") for it in [*FEWER[63::-1], *FEWER[64:]]), CLOSE],
+        "I S " + " ".join(f"{it}x1" for it in FEWER) + " C", all_seen(159, FEWER),
+        want=",".join(f"{it}-{it}" for it in FEWER)),
 ]
 
 # Replies of which the last is refused, or ends the association before its time.
@@ -220,8 +207,9 @@ BAD = [
     misframed("WrongKind", INIT),
     broken("cut", "Truncated", TWO, ONE, OTHER[:-1], requests="I S 1x1 2x1", known=all_seen(2, [1]), give=broken_off),
     broken("primitive", "NotApdu", hexadecimal("9700")),
-    broken("too much", "Malformed", TWO, given(1, "r1", more=hexadecimal("0400")), requests="I S 1x1 2x1", known=[count(2)]),
-    broken("another kind", "WrongKind", init(reference="820400000001")),
+    broken("too much", "Malformed", TWO, given(1, "r1", more=hexadecimal("0400")), requests="I S 1x1 2x1",
+           known=[count(2)]),
+    broken("another kind", "WrongKind", init_reply(reference="820400000001")),
     broken("no such id", "UnknownReference", found("02", reference="820400000009")),
     broken("short id", "UnknownReference", found("02", reference="8203000001")),
     broken("no id", "UnknownReference", found("02", reference="")),
@@ -231,16 +219,17 @@ BAD = [
     broken("too many found", "BadShape", found("01", 2, more=element(b"\xbc", *[record(MARC21, b"r0")] * 2))),
     broken("too many shown", "BadShape", TWO, given(1, "r1", "r2"), requests="I S 1x1 2x1", known=[count(2)]),
     broken("nothing", "BadShape", TWO, given(1), requests="I S 1x1 2x1", known=[count(2)]),
-    broken("a part", "BadShape", TWO, listed(operation(1), 1, [PART]), requests="I S 1x1 2x1", known=[count(2)]),
+    broken("a part", "BadShape", TWO, listed(requested(1), 1, [PART]), requests="I S 1x1 2x1", known=[count(2)]),
     broken("ended", "Ended", TWO, ONE, requests="I S 1x1 2x1", known=all_seen(2, [1]), give=broken_off),
-    Row("reset", [], "I", [], "Read", resetting),
+    Row("reset", [], "I", [], "Read", reset_in_advance),
     Row("closing", [CLOSE], "I", []),
     broken("closing later", "", TWO, ONE, CLOSE, requests="I S 1x1 2x1", known=all_seen(2, [1])),
-    Row("rejecting", [init(result="8c0100")], "I", [REJECTED]),
-    Row("no Search", [init(options=NOTHING), CLOSE], "I C", []),
-    whole("failing", found(**UNFOUND, more=non_surrogate(114, "1")), requests="I S C", known=[FAILING, noted(0, 114, "1")]),
-    whole("failing twice", found(**UNFOUND, more=as_many(diagnostic(BIB1, 114, "5"), diagnostic(BIB1, 3))), requests="I S C",
-          known=[FAILING, noted(0, 3), noted(0, 114, "5")]),
+    Row("rejecting", [init_reply(result="8c0100")], "I", [REJECTED]),
+    Row("no Search", [init_reply(options=NOTHING), CLOSE], "I C", []),
+    whole("failing", found(**UNFOUND, more=non_surrogate(114, "1")), requests="I S C",
+          known=[FAILING, noted(0, 114, "1")]),
+    whole("failing twice", found(**UNFOUND, more=as_many(diagnostic(BIB1, 114, "5"), diagnostic(BIB1, 3))),
+          requests="I S C", known=[FAILING, noted(0, 3), noted(0, 114, "5")]),
 ]
 
 # what stands in front of the world file, the rows, and the status
@@ -253,9 +242,9 @@ GROUPS = ((SMALL, GOOD, 0), (GREAT, RANGED, 0), (SMALL, BAD, 1))
 def request(row, word):
     """The request that a word of the row stands for."""
     if word in "ISC":
-        return {"I": INIT, "S": search(row.term or row.name, row.set), "C": CLOSE}[word]
+        return {"I": INIT, "S": search_for(row.term or row.name, row.set), "C": CLOSE}[word]
     (first, number), *more = (map(int, it.split("x")) for it in word.split(","))
-    return present(first, number, [tuple(it) for it in more], row.set)
+    return present_at(first, number, [tuple(it) for it in more], row.set)
 
 
 class Replying(Host):
@@ -271,8 +260,9 @@ class Replying(Host):
 
 def list_due(rows):
     lines = [f'target "{row.name}" {text}\n' for row in rows for _, position, text in row.known if position is None]
-    placed = [(position, at, text) for at, row in enumerate(rows) for _, position, text in row.known if position and text]
-    return "".join(lines + [f'{position} "{rows[at].name}" 1 {text}\n' for position, at, text in sorted(placed)])
+    every = [(position, at, text) for at, row in enumerate(rows) for _, position, text in row.known]
+    placed = sorted(it for it in every if it[0] and it[2])
+    return "".join(lines + [f'{position} "{rows[at].name}" 1 {text}\n' for position, at, text in placed])
 
 
 def told_due(rows):
@@ -284,35 +274,38 @@ def saved_due(rows):
     return of_facts([row.name for row in rows], facts)
 
 
-def fault_of_saved(trials, name, rows, status):
+def fault_of_saved(asker, name, rows, status):
     """What is not as it should be of the saved file, and of its list."""
-    with open(os.path.join(trials.room, name), "rb") as file:
+    with open(os.path.join(asker.room, name), "rb") as file:
         octets = file.read()
     if octets != saved_due(rows):
         return [f"{name}: {octets.hex()}\n    {saved_due(rows).hex()} is due"]
-    ran = subprocess.run([trials.zmeta, "join", name, name], capture_output=True, cwd=trials.room, timeout=60)
+    ran = subprocess.run([asker.zmeta, "join", name, name], capture_output=True, cwd=asker.room, timeout=60)
     found, due = (ran.returncode, ran.stdout.decode(), ran.stderr), (status, list_due(rows), b"")
     return [] if found == due else [f"{name}: joined, it is {found}\n    {due} is due"]
 
 
-async def faults_of_group(trials, front, rows, status, at_once, errors):
-    """What is not as it should be where these rows are asked. If `errors` is a path, standard error goes there and fails."""
-    hosts, name = [Replying(it) for it in rows], f"replies-{trials.count}.saved"
+async def faults_of_group(asker, front, rows, status, at_once, errors):
+    """What is not as it should be where these rows are asked. If `errors` is a path, standard error goes there and
+    fails."""
+    hosts, name = [Replying(it) for it in rows], f"replies-{asker.count}.saved"
     with open(errors or os.devnull, "wb") as stream:
         target = stream if errors else subprocess.PIPE
-        run = await trials.run(hosts, ["--save", name], at_once, errors=target, front=front)
+        run = await asker.run(hosts, ["--save", name], at_once, errors=target, front=front)
     due = (3, list_due(rows), "") if errors else (status, list_due(rows), told_due(rows))
     found = faults_of_answer(run, hosts, due)
-    found += fault_of_saved(trials, name, rows, int(status == 1 and any(it[0][0] == FAILED for row in rows for it in row.known)))
+    has_failed = any(it[0][0] == FAILED for row in rows for it in row.known)
+    found += fault_of_saved(asker, name, rows, int(status == 1 and has_failed))
     return [f"replies: {'at once' if at_once else 'in order'}, {errors or 'told'}: {it}" for it in found]
 
 
-class Interrupted(Trials):
+class Interrupted(Asker):
     """The program is interrupted again and again."""
 
     def program(self, words, files, errors):
         begun = time.monotonic()
-        with subprocess.Popen([self.zmeta, "ask", *words], stdout=subprocess.PIPE, stderr=errors, cwd=self.room) as process:
+        words = [self.zmeta, "ask", *words]
+        with subprocess.Popen(words, stdout=subprocess.PIPE, stderr=errors, cwd=self.room) as process:
             while process.poll() is None and time.monotonic() < begun + END:
                 interrupt(process)
                 time.sleep(PAUSE)
@@ -320,19 +313,20 @@ class Interrupted(Trials):
         return (process.returncode, printed.decode(), told.decode()), begun, time.monotonic() - begun
 
 
-async def faults_of_interrupted(trials, at_once):
+async def faults_of_interrupted(asker, at_once):
     """What is not as it should be where the program is interrupted while it waits for replies."""
-    hosts = [Host(name, ["r1", "r2"], None, "answered", partial(one_by_one, pause=4 * PAUSE)) for name in ("a", "b", "c")]
-    found = faults_of_answer(await trials.run(hosts, (), at_once), hosts)
+    give = partial(one_by_one, pause=4 * PAUSE)
+    hosts = [Host(name, ["r1", "r2"], None, "answered", give) for name in ("a", "b", "c")]
+    found = faults_of_answer(await asker.run(hosts, (), at_once), hosts)
     return [f"replies: {'at once' if at_once else 'in order'}, interrupted: {it}" for it in found]
 
 
 async def all_faults(zmeta, room, pool):
-    trials, interrupted, found = Trials(zmeta, room, pool), Interrupted(zmeta, room, pool), []
+    asker, interrupted, found = Asker(zmeta, room, pool), Interrupted(zmeta, room, pool), []
     for at_once in BOTH:
         for front, rows, status in GROUPS:
-            found += await faults_of_group(trials, front, rows, status, at_once, None)
-        found += await faults_of_group(trials, SMALL, BAD, 1, at_once, "/dev/full")
+            found += await faults_of_group(asker, front, rows, status, at_once, None)
+        found += await faults_of_group(asker, SMALL, BAD, 1, at_once, "/dev/full")
         found += await faults_of_interrupted(interrupted, at_once)
     return found, 2 * sum(len(rows) for _, rows, _ in GROUPS)
 

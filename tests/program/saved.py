@@ -72,7 +72,8 @@ def named(names):
 
 
 def fact(kind, target, number, place=None, rest=b""):
-    """A fact of a target's set: COUNT and how many; FAILED; SEEN, the position and a NamePlusRecord; DIAG, the place and a DiagRec."""
+    """A fact of a target's set: COUNT and how many; FAILED; SEEN, the position and a NamePlusRecord; DIAG, the place
+    and a DiagRec."""
     where = [integer(b"\x80", target), integer(b"\x81", number)]
     return element(bytes([0xA0 + kind]), *where, *([] if place is None else [integer(b"\x82", place)]), rest)
 

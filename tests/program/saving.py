@@ -1,4 +1,5 @@
-"""Saves where it may fail, and looks at the file: an older one is whole or replaced, and what is no regular file is written as it is.
+"""Saves where it may fail, and looks at the file: an older one is whole or replaced, and what is no regular file is
+written as it is.
 
     ZMETA=PROGRAM python3 tests/program/saving.py"""
 
@@ -69,10 +70,12 @@ def faults(zmeta, room):
     yield from unlike("new", (saved(zmeta, room, "saves/new"), octets_at(at("new"))), (done, due))
     make(at("older"), OLDER)
     os.chmod(at("older"), 0o640)
-    yield from unlike("full disk", (saved(zmeta, room, "saves/older", full=True), octets_at(at("older"))), (refused("older"), OLDER))
+    yield from unlike("full disk", (saved(zmeta, room, "saves/older", full=True), octets_at(at("older"))),
+                      (refused("older"), OLDER))
     yield from unlike("older", (saved(zmeta, room, "saves/older"), octets_at(at("older"))), (done, due))
     yield from unlike("permissions", stat.S_IMODE(os.stat(at("older")).st_mode), 0o640)
-    yield from unlike("full disk, no older file", (saved(zmeta, room, "saves/none", full=True), os.path.exists(at("none"))), (refused("none"), False))
+    found = saved(zmeta, room, "saves/none", full=True), os.path.exists(at("none"))
+    yield from unlike("full disk, no older file", found, (refused("none"), False))
     # what a run that was broken off may have left
     make(at("again.part"), OLDER)
     yield from unlike("again", (saved(zmeta, room, "saves/again"), octets_at(at("again"))), (done, due))

@@ -3,8 +3,8 @@
 
     ZMETA=PROGRAM python3 tests/program/served.py
 
-A session is a connection: pieces that are sent, each in one write, with the octets that answer it. Behind them the connection ends: by
-the server if it has stopped or closed, else by the client."""
+A session is a connection: pieces that are sent, each in one write, with the octets that answer it. Behind them the
+connection ends: by the server if it has stopped or closed, else by the client."""
 
 import os
 import socket
@@ -13,12 +13,15 @@ import sys
 import tempfile
 import time
 
-from hosts import ACCEPTED, CLOSE, INIT, element
-from saved import BIB1, MARC21, XML, integer, object_identifier, record
+from peers import (
+    ACCEPTED, CLOSE, END, INIT, REFUSED, close, connected, found, free_port, init_reply, non_surrogate, operation,
+    present, received, search, shown,
+)
+from saved import MARC21, XML, element, record
 from streams import interrupt, make_narrow
 
-# a server has to answer within so many seconds, and waits within so many for the next piece
-MOST, REST = 60, 0.005
+# so many seconds after a reply a server waits for the next piece
+REST = 0.005
 # if a reply has more octets, its write is interrupted so often before anything is read
 MUCH, WRITES = 400_000, 3
 
@@ -38,6 +41,7 @@ TARGETS = {"shelf": ("1048576 cn", [*DATABASES]), "box": ("64 -", ["d1", "d2"]),
 
 
 def world(name):
+    """The world file of a target."""
     settings, databases = TARGETS[name]
     lines = [f"target {name} {settings}\n"]
     for database in databases:
@@ -46,66 +50,23 @@ def world(name):
     return "".join(lines)
 
 
-# requests
-
-
-def operation(number):
-    return element(b"\x82", number.to_bytes(4, "big"))
-
-
-def term(text):
-    return element(b"\xa0", element(b"\xbf\x66", element(b"\xbf\x2c"), element(b"\x9f\x2d", text.encode())))
-
-
-def search(number, name, databases, text, small=0, large=1):
-    named = element(b"\xb2", *(element(b"\x9f\x69", it.encode()) for it in databases))
-    query = element(b"\xb5", element(b"\xa1", object_identifier("1.2.840.10003.3.1"), term(text)))
-    bounds = integer(b"\x8d", small), integer(b"\x8e", large), integer(b"\x8f", 0), hexadecimal("9001ff")
-    return element(b"\xb6", operation(number), *bounds, element(b"\x91", name), named, query)
-
-
-def present(number, name, start, many, *ranges):
-    more = [element(b"\x30", integer(b"\x81", one), integer(b"\x82", other)) for one, other in ranges]
-    front = operation(number), element(b"\x9f\x1f", name), integer(b"\x9e", start), integer(b"\x9d", many)
-    return element(b"\xb8", *front, *([element(b"\xbf\x81\x54", *more)] if more else []))
-
-
-def close(number):
-    return element(b"\xbf\x30", operation(number), hexadecimal("9f81530100"))
-
-
 # replies
 
 
 def records_of(database, *octets):
+    """Records of a database, each in its syntax."""
     return [record(SYNTAXES[it], it.encode(), database) for it in octets]
 
 
-def found(number, count, following, records=()):
-    """The count, the number of records, the next position; and that all came that were due, if any were."""
-    numbers = integer(b"\x97", count), integer(b"\x98", len(records)), integer(b"\x99", following), hexadecimal("9601ff")
-    return element(b"\xb7", operation(number), *numbers, *([hexadecimal("9b0100"), element(b"\xbc", *records)] if records else []))
-
-
-def diagnostic(condition, info):
-    return element(b"\xbf\x81\x02", object_identifier(BIB1), integer(b"\x02", condition), element(b"\x1a", info.encode()))
-
-
 def unfound(number, condition, info):
-    return element(b"\xb7", operation(number), hexadecimal("970100 980100 990100 960100 9a0103"), diagnostic(condition, info))
-
-
-def shown(number, records, following, status=0):
-    numbers = integer(b"\x98", len(records)), integer(b"\x99", following), integer(b"\x9b", status)
-    return element(b"\xb9", operation(number), *numbers, element(b"\xbc", *records))
+    """A Search response that fails for this reason."""
+    numbers = hexadecimal("970100 980100 990100 960100 9a0103")
+    return element(b"\xb7", operation(number), numbers, non_surrogate(condition, info))
 
 
 def unshown(number, condition, info=""):
-    return element(b"\xb9", operation(number), hexadecimal("980100 990100 9b0105"), diagnostic(condition, info))
-
-
-def init_of(versions, result, options="840301c006", sizes="8503100000 8603100000"):
-    return element(b"\xb5", hexadecimal("820400000000" + versions + options + sizes + result))
+    """A Present response that fails for this reason."""
+    return element(b"\xb9", operation(number), hexadecimal("980100 990100 9b0105"), non_surrogate(condition, info))
 
 
 def single(positions):
@@ -122,8 +83,8 @@ MANY = search(1, b"1", ["many"], "word"), found(1, 300, 1)
 ALL, LONG = ([it[0] for it in DATABASES[name]] for name in ("many", "long"))
 ODD = range(1, 300, 2)
 SEVENTY, HUNDREDS = single(range(1, 71)), single(range(1, 221))
-SETS = [(search(number, b"s%d" % number, ["d1"], "dune"), found(number, 2, 1)) for number in range(1, 13)]
-SETS += [(present(20 + number, b"s%d" % number, 2, 1), shown(20 + number, records_of("d1", "a2"), 0)) for number in range(1, 13)]
+SETS = [(search(it, b"s%d" % it, ["d1"], "dune"), found(it, 2, 1)) for it in range(1, 13)]
+SETS += [(present(20 + it, b"s%d" % it, 2, 1), shown(20 + it, records_of("d1", "a2"), 0)) for it in range(1, 13)]
 NO_VERSION = INIT.replace(hexadecimal("830205e0"), hexadecimal("83020500"))
 # octets that are no element; and an element that is no APDU
 BROKEN, STRANGE = hexadecimal("04ff"), hexadecimal("0400")
@@ -131,7 +92,8 @@ BROKEN, STRANGE = hexadecimal("04ff"), hexadecimal("0400")
 SHELF = [
     # several databases: in the order named, each once
     [OPENED,
-     (search(1, b"1", ["d2", "d1", "d2"], "dune", 9, 10), found(1, 3, 0, records_of("d2", "b2") + records_of("d1", "a1", "a2"))),
+     (search(1, b"1", ["d2", "d1", "d2"], "dune", 9, 10),
+      found(1, 3, 0, records_of("d2", "b2") + records_of("d1", "a1", "a2"))),
      (search(2, b"2", ["d1", "d3", "d2"], "emma"), found(2, 2, 1)),
      (present(3, b"2", 1, 2), shown(3, records_of("d1", "a3") + records_of("d2", "b1"), 0)),
      (present(4, b"1", 2, 1, (1, 1)), shown(4, records_of("d1", "a1") + records_of("d2", "b2"), 2)),
@@ -152,7 +114,8 @@ SHELF = [
     # a reply longer than a piece, of one range and of many; and a request longer than a piece
     [OPENED, MANY,
      (present(2, b"1", 1, 300), shown(2, records_of("many", *ALL), 0)),
-     (present(3, b"1", 1, 1, *((it, 1) for it in ODD[1:])), shown(3, records_of("many", *(f"r{it}" for it in ODD)), 300)),
+     (present(3, b"1", 1, 1, *((it, 1) for it in ODD[1:])),
+      shown(3, records_of("many", *(f"r{it}" for it in ODD)), 300)),
      (search(4, b"2", ["many"], "x" * 10_000), found(4, 0, 0)),
      # and a reply of half a million octets, in writes that are interrupted
      (search(5, b"3", ["long"], "word"), found(5, 8, 1)),
@@ -168,7 +131,7 @@ SHELF = [
     [(MANY[0], b"")],
     [(close(0), close(0))],
     [(INIT + CLOSE, ACCEPTED + CLOSE)],
-    [(NO_VERSION, init_of("83020500", "8c0100")), (CLOSE, b"")],
+    [(NO_VERSION, init_reply("83020500", result="8c0100")), (CLOSE, b"")],
     # many result sets, of which one is replaced
     [OPENED, *SETS,
      (search(40, b"s3", ["d2"], "emma"), found(40, 1, 1)),
@@ -177,14 +140,15 @@ SHELF = [
 ]
 BOX = [
     # a reply has as many records as its size allows, two of 25 octets; a result set has no name of its own
-    [(INIT, init_of("830205e0", "8c01ff", "840301c000", "850140 860140")),
+    [(INIT, init_reply(options="840301c000", sizes="850140 860140")),
      (search(1, b"1", ["d1"], "dune"), unfound(1, 22, "1")),
      (search(2, b"default", ["d2", "d1"], "dune", 9, 10),
-      found(2, 3, 3, records_of("d2", "b2") + records_of("d1", "a1")).replace(hexadecimal("9b0100"), hexadecimal("9b0102"))),
+      found(2, 3, 3, records_of("d2", "b2") + records_of("d1", "a1")).replace(
+          hexadecimal("9b0100"), hexadecimal("9b0102"))),
      (present(3, b"default", 1, 3), shown(3, records_of("d2", "b2") + records_of("d1", "a1"), 3, 2)),
      (CLOSE, CLOSE)],
 ]
-WALL = [[(INIT, init_of("830205e0", "8c0100")), (MANY[0], b"")]]
+WALL = [[(INIT, REFUSED), (MANY[0], b"")]]
 
 SESSIONS = {"shelf": SHELF, "box": BOX, "wall": WALL}
 # the session with a great reply, of which the client reads little at a time, and which it ends
@@ -194,34 +158,9 @@ GREAT = SHELF[4]
 # a server
 
 
-def free_port():
-    with socket.create_server(("127.0.0.1", 0)) as door:
-        return door.getsockname()[1]
-
-
-def connected(port, prepare):
-    """A connection, once the server takes one."""
-    for _ in range(MOST * 20):
-        link = socket.socket()
-        prepare(link)
-        link.settimeout(MOST)
-        if link.connect_ex(("127.0.0.1", port)) == 0:
-            return link
-        link.close()
-        time.sleep(0.05)
-    raise TimeoutError(f"nobody listens at port {port}")
-
-
-def received(link, count):
-    """So many octets, or all up to the end."""
-    octets = b""
-    while len(octets) < count and (piece := link.recv(min(65536, count - len(octets)))):
-        octets += piece
-    return octets
-
-
 def fault_of_session(port, session, server):
-    """What differs from what is due, if anything. The server is interrupted while it waits for a piece, and for room for a long reply."""
+    """What differs from what is due, if anything. The server is interrupted while it waits for a piece, and for room
+    for a long reply."""
     with connected(port, make_narrow if session is GREAT else lambda link: None) as link:
         for at, (sent, due) in enumerate(session):
             time.sleep(REST)
@@ -250,7 +189,7 @@ def faults_of_target(zmeta, room, name):
                 fault = fault_of_session(port, session, server)
                 if fault:
                     yield f"serve {name}, session {number}, {fault}"
-            found = *server.communicate(timeout=MOST), server.returncode
+            found = *server.communicate(timeout=END), server.returncode
             if found != (b"", b"", 0):
                 yield f"serve {name}: {found}"
         except (OSError, subprocess.TimeoutExpired) as error:
@@ -261,7 +200,8 @@ def faults_of_target(zmeta, room, name):
 
 def faults(zmeta, room):
     """What is not as it should be, and how many sessions there were."""
-    return [fault for name in SESSIONS for fault in faults_of_target(zmeta, room, name)], sum(map(len, SESSIONS.values()))
+    found = [fault for name in SESSIONS for fault in faults_of_target(zmeta, room, name)]
+    return found, sum(map(len, SESSIONS.values()))
 
 
 def main():

@@ -1,47 +1,19 @@
-"""Asks hosts that are not reached, or that stop, and looks at what the view and the JSON tell of each. The hosts are on 127.0.0.1.
+"""Asks hosts that are not reached, or that stop, and looks at what the view and the JSON tell of each. The hosts are on
+127.0.0.1.
 
     ZMETA=PROGRAM python3 tests/program/stops.py"""
 
 import json
 import os
-import socket
-import struct
 import subprocess
 import sys
 import tempfile
-import threading
 
-from hosts import ACCEPTED, counted, shown
-from terminal import full_port
+from peers import ACCEPTED, counted, free_port, full_port, hangs_up, resets, shown_at, silent, threaded
 
 # a program that asks has to end within so many seconds
 MOST = 60
 WORDS = ["ask", "--at-once", "--connect", "1", "--patience", "1"]
-
-
-def wait_for_end(link):
-    """Reads what the program sends until it hangs up."""
-    while link.recv(4096):
-        pass
-
-
-def silent(link, *replies):
-    """Gives these replies, and then nothing."""
-    link.sendall(b"".join(replies))
-    wait_for_end(link)
-
-
-def hangs_up(link, *replies):
-    """Gives these replies, and ends the connection."""
-    link.sendall(b"".join(replies))
-    link.shutdown(socket.SHUT_WR)
-    wait_for_end(link)
-
-
-def resets(link):
-    """Breaks the connection once the program has sent something."""
-    link.recv(4096)
-    link.setsockopt(socket.SOL_SOCKET, socket.SO_LINGER, struct.pack("ii", 1, 0))
 
 
 # a name, what its host does (or its address), the reason, the words, and whether they stand behind what is known
@@ -50,33 +22,18 @@ HOSTS = [
     ("closed", None, "Connect", "not reached (refused)", "refused"),
     ("full", full_port, "Connect", "not reached (no answer in 1 s)", "no answer in 1 s"),
     ("mute", lambda link: silent(link), "Read", "silent for 1 s", "silent for 1 s"),
-    ("late", lambda link: silent(link, ACCEPTED, counted(12)), "Read", "12 found, 0 shown; then silent for 1 s", "silent for 1 s"),
-    ("one", lambda link: silent(link, ACCEPTED, counted(12), shown(1, "r")), "Read", "12 found, 1 shown; then silent for 1 s", "silent for 1 s"),
+    ("late", lambda link: silent(link, ACCEPTED, counted(12)), "Read",
+     "12 found, 0 shown; then silent for 1 s", "silent for 1 s"),
+    ("one", lambda link: silent(link, ACCEPTED, counted(12), shown_at(1, "r")), "Read",
+     "12 found, 1 shown; then silent for 1 s", "silent for 1 s"),
     ("gone", lambda link: hangs_up(link), "Ended", "hung up", "hung up"),
     ("short", lambda link: hangs_up(link, ACCEPTED, counted(3)[:-1]), "Truncated", "hung up", "hung up"),
     ("broken", resets, "Read", "reset", "reset"),
-    ("web", lambda link: hangs_up(link, b"HTTP/1.0 400 Bad Request\r\n\r\n" + b" " * 200), None, "sent what is no Z39.50", "sent what is no Z39.50"),
-    ("odd", lambda link: silent(link, counted(3)), None, "sent an answer that fits no request", "sent an answer that fits no request"),
+    ("web", lambda link: hangs_up(link, b"HTTP/1.0 400 Bad Request\r\n\r\n" + b" " * 200), None,
+     "sent what is no Z39.50", "sent what is no Z39.50"),
+    ("odd", lambda link: silent(link, counted(3)), None,
+     "sent an answer that fits no request", "sent an answer that fits no request"),
 ]
-
-
-def serve(door, does):
-    while True:
-        try:
-            link, _ = door.accept()
-        except OSError:
-            return
-        with link:
-            try:
-                does(link)
-            except OSError:
-                pass
-
-
-def closed_port():
-    with socket.socket() as door:
-        door.bind(("127.0.0.1", 0))
-        return door.getsockname()[1]
 
 
 def address_of(does, held):
@@ -84,20 +41,15 @@ def address_of(does, held):
     if isinstance(does, str):
         return does
     if does is None:
-        return f"127.0.0.1:{closed_port()}"
+        return f"127.0.0.1:{free_port()}"
     if does is full_port:
-        full = []
-        port = full_port(full)
-        held += full
-        return f"127.0.0.1:{port}"
-    door = socket.create_server(("127.0.0.1", 0))
-    held.append(door)
-    threading.Thread(target=serve, args=(door, does), daemon=True).start()
-    return f"127.0.0.1:{door.getsockname()[1]}"
+        return f"127.0.0.1:{full_port(held)}"
+    return threaded(does, held)
 
 
 def asked(zmeta, room, *words):
-    ran = subprocess.run([zmeta, *WORDS, *words, "stops.world"], capture_output=True, cwd=room, timeout=MOST, check=False)
+    words = [zmeta, *WORDS, *words, "stops.world"]
+    ran = subprocess.run(words, capture_output=True, cwd=room, timeout=MOST, check=False)
     return ran.returncode, ran.stdout.decode(), ran.stderr.decode()
 
 
@@ -116,7 +68,8 @@ def faults(zmeta, room):
             yield f"stops: {status} {head}, and {due} is due\n{told}"
         status, lines, told = asked(zmeta, room, "--json")
         found = [it for it in map(json.loads, lines.splitlines()) if it["type"] == "stopped"]
-        if status != 1 or [(it["catalogue"], it["detail"]) for it in found] != [(name, detail) for name, *_, detail in HOSTS]:
+        details = [(name, detail) for name, *_, detail in HOSTS]
+        if status != 1 or [(it["catalogue"], it["detail"]) for it in found] != details:
             yield f"stops: {status} {found}\n{told}"
         reasons = {line.split('"')[1]: line.rpartition(": ")[2] for line in told.splitlines()}
         for it, (name, _, reason, *_) in zip(found, HOSTS):

@@ -1,5 +1,6 @@
 #!/usr/bin/env python3
-"""Runs the program on streams that fail, and on streams that take a long text slowly, in short writes that signals interrupt.
+"""Runs the program on streams that fail, and on streams that take a long text slowly, in short writes that signals
+interrupt.
 
     ZMETA=PROGRAM python3 tests/program/streams.py"""
 
@@ -30,8 +31,8 @@ WRITES = 20
 
 
 def failing(zmeta, room, which, words, given):
-    """The status of a command, what it prints, and what it tells. Of its streams, `stdout`, `stderr` or `both` are full, or `stdin` is a
-    folder."""
+    """The status of a command, what it prints, and what it tells. Of its streams, `stdout`, `stderr` or `both` are
+    full, or `stdin` is a folder."""
     with open("/dev/full", "wb") as full:
         out, errors = (full if which in it else subprocess.PIPE for it in (("stdout", "both"), ("stderr", "both")))
         source = {"stdin": os.open(room, os.O_RDONLY)} if which == "stdin" else {"input": given}
@@ -54,7 +55,8 @@ def pipe():
 
 
 def stream():
-    """Both ends of a small socket with a limit of time: a write that is interrupted has taken a part, or nothing; then it has failed."""
+    """Both ends of a small socket with a limit of time: a write that is interrupted has taken a part, or nothing; then
+    it has failed."""
     here, there = socket.socketpair()
     there.setsockopt(socket.SOL_SOCKET, socket.SO_SNDBUF, HELD)
     there.setsockopt(socket.SOL_SOCKET, socket.SO_SNDTIMEO, struct.pack("ll", MOST, 0))
@@ -62,7 +64,8 @@ def stream():
 
 
 def make_narrow(link):
-    """Lets a TCP socket take few octets which are not read, and the system of its other end keep few: segments are short."""
+    """Lets a TCP socket take few octets which are not read, and the system of its other end keep few: segments are
+    short."""
     link.setsockopt(socket.SOL_SOCKET, socket.SO_RCVBUF, HELD)
     link.setsockopt(socket.IPPROTO_TCP, socket.TCP_MAXSEG, 536)
 
@@ -106,7 +109,8 @@ def feed(process, given):
 def slowly(zmeta, room, words, given, ends):
     """The status of a command, what it prints and tells, and how many writes it made before the last interruption."""
     here, there = ends()
-    with subprocess.Popen([zmeta, *words], bufsize=0, stdin=subprocess.PIPE, stdout=there, stderr=subprocess.PIPE, cwd=room) as process:
+    with subprocess.Popen([zmeta, *words], bufsize=0, stdin=subprocess.PIPE, stdout=there, stderr=subprocess.PIPE,
+                          cwd=room) as process:
         os.close(there)
         feeding, ending = threading.Thread(target=feed, args=(process, given)), threading.Timer(MOST, process.kill)
         for it in (feeding, ending):
@@ -162,7 +166,8 @@ def faults(zmeta, room):
         for ends in (pipe, stream):
             found, writes = slowly(zmeta, room, words, given, ends)
             if found != (0, due, b""):
-                yield f"{words}, slow {ends.__name__}: {found[0]} {found[2]}, {len(found[1])} octets, and {len(due)} are due"
+                text = f"{found[0]} {found[2]}, {len(found[1])} octets, and {len(due)} are due"
+                yield f"{words}, slow {ends.__name__}: {text}"
             elif writes < WRITES:
                 yield f"{words}, slow {ends.__name__}: {writes} writes are too few"
 

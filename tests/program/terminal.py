@@ -1,12 +1,13 @@
-"""Breaks the program off while it asks, and looks at what it shows on a terminal. Its host is on 127.0.0.1, at a port that is free, and
-takes no connection."""
+"""Breaks the program off while it asks, and looks at what it shows on a terminal. Its host is on 127.0.0.1, at a port
+that is free, and takes no connection."""
 
 import os
 import pty
 import signal
-import socket
 import subprocess
 import time
+
+from peers import full_port
 
 # beyond this, in seconds, the program hangs; by itself it waits for half as long
 MOST = 60
@@ -17,22 +18,6 @@ LAST = (
     b'\r\x1b[Kzmeta: target "full": Connect\r\n'
     b"zmeta: 127.0.0.1 gave no answer in 1 s; --connect sets how long that may take\r\n"
 )
-
-
-def full_port(held):
-    """A port whose queue is full: the system drops what begins a connection."""
-    held.append(socket.socket())
-    held[0].bind(("127.0.0.1", 0))
-    held[0].listen(0)
-    place = held[0].getsockname()
-    for _ in range(10):
-        held.append(socket.socket())
-        held[-1].settimeout(0.5)
-        try:
-            held[-1].connect(place)
-        except socket.timeout:
-            return place[1]
-    raise RuntimeError("no queue is full")
 
 
 def fault_of_break(zmeta, room):

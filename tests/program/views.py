@@ -1,4 +1,5 @@
-"""Whole views for readers, worked out by hand: what is known, from which a saved file is written, and the text that is due."""
+"""Whole views for readers, worked out by hand: what is known, from which a saved file is written, and the text that is
+due."""
 
 import saved
 from marc_made import DELIMITER, END, RECORD_END, coded, digits, field, general, made
@@ -29,23 +30,28 @@ LETTERS = (
     ["Российская национальная библиотека", "Εθνική Βιβλιοθήκη", "הספרייה הלאומית", "国立国会図書館", "Bibliothe\u0300que"],
     [
         (COUNT, 0, 1, 4), (COUNT, 3, 1, 3),
-        seen(0, 1, MARC21, titled("aПреступление и наказание :", "bроман /", "cФ. М. Достоевский.", more=[("264", field(" 1", "c1970"))])),
+        seen(0, 1, MARC21, titled("aПреступление и наказание :", "bроман /", "cФ. М. Достоевский.",
+                                  more=[("264", field(" 1", "c1970"))])),
         # Greek letters with their accents behind them
         seen(1, 1, MARC21, titled("aΟδύσσεια /", "cΟ\u0301μηρος")),
         # Hebrew with points: NFC composes no presentation form, and sorts points by their classes
         seen(2, 1, MARC21, titled("a\ufb2a\u05b8לום /", "cעמוס עוז", more=[("260", field("  ", "cתשס״ב 2002"))])),
         seen(3, 1, MARC21, titled("aか\u3099くもん ｶﾅ /", "c川端康成著")),
         seen(4, 1, MARC21, titled("aE\u0301tude o\u0323\u0302 o\u0302\u0323 q\u0307\u0323", coding=" ")),
-        seen(0, 2, UNIMARC, unimarc("aКапитанская дочка", "eповесть", "fА. С. Пушкин", "gпослесловие В. Иванова", more=ISBN_FIELD)),
+        seen(0, 2, UNIMARC,
+             unimarc("aКапитанская дочка", "eповесть", "fА. С. Пушкин", "gпослесловие В. Иванова", more=ISBN_FIELD)),
         # MARC-8: Cyrillic, and Greek symbols, which are not read; marks before their letter, and half marks
-        seen(0, 3, MARC21, titled(b"a\x1b(NpRESTUPLENIE\x1b(B :", b"broman /", b"c\x1b(NdOSTOEWSKIJ\x1b(B.", coding=" ")),
+        seen(0, 3, MARC21,
+             titled(b"a\x1b(NpRESTUPLENIE\x1b(B :", b"broman /", b"c\x1b(NdOSTOEWSKIJ\x1b(B.", coding=" ")),
         seen(1, 3, MARC21, titled(b"aThe \x1bga\x1bs-rays, H\x1bb2\x1bsO", coding=" ")),
         seen(3, 3, MARC21, titled(b"a\x1b$1!0@!1A", coding=" ")),
-        seen(4, 3, MARC21, titled(b"aVi\xf2\xe3et Vi\xe3\xf2et \xa1\xe2od\xe2z \xc7 \xc8 \xebi\xecu \xfan\xfbg a\xe2", coding=" ")),
+        seen(4, 3, MARC21,
+             titled(b"aVi\xf2\xe3et Vi\xe3\xf2et \xa1\xe2od\xe2z \xc7 \xc8 \xebi\xecu \xfan\xfbg a\xe2", coding=" ")),
         # Hangul in its parts, and a letter of four octets
         seen(3, 4, MARC21, titled("a\u1112\u1161\u11ab 📖 𝄞")),
         # nothing that turns text, moves the cursor or is not seen
-        seen(4, 4, MARC21, titled("aa\u202eb\u2066c\u200fd\u061ce\u200bf\ufeffg\x1b[2J\x07h\x85i\u2028j\tk", "b\x98The \x9cend")),
+        seen(4, 4, MARC21,
+             titled("aa\u202eb\u2066c\u200fd\u061ce\u200bf\ufeffg\x1b[2J\x07h\x85i\u2028j\tk", "b\x98The \x9cend")),
     ],
     """\
 Российская национальная библиотека: 4 found, 3 shown
@@ -85,7 +91,8 @@ def twice(first, second):
 def repeated(size):
     """17 entries of one field of so many octets. With 3,696 they tell of 16 times as many octets as the record has."""
     directory = (b"500" + digits(size + 1, 4) + b"00000") * 17
-    return b"00000nam a22" + digits(25 + len(directory), 5) + b" a 4500" + directory + END + b"x" * size + END + RECORD_END
+    leader = b"00000nam a22" + digits(25 + len(directory), 5) + b" a 4500"
+    return leader + directory + END + b"x" * size + END + RECORD_END
 
 
 DAMAGED = (
@@ -100,7 +107,8 @@ DAMAGED = (
                 changed(36 + 7, b"99999"),
                 changed(36 + 7, b"0002x"),
                 changed(24 + 3, b"00x2"),
-                # both tell of the title; that of 245 reaches into the next field, and that of 260 begins within the title
+                # both tell of the title; that of 245 reaches into the next field, and that of 260 begins within the
+                # title
                 changed(36 + 3, TWO[27:36]),
                 changed(24 + 3, b"0030"),
                 changed(36 + 3, b"001400010"),
@@ -117,7 +125,8 @@ DAMAGED = (
                 changed(12, b"0004x"),
                 changed(12, b"00999"),
                 changed(12, b"00023"),
-                # the record's length, the number of indicators and the entry map are no numbers; entries of other lengths than told
+                # the record's length, the number of indicators and the entry map are no numbers; entries of other
+                # lengths than told
                 changed(0, b"9x9x9"),
                 changed(10, b"xx"),
                 changed(20, b"    "),
@@ -176,7 +185,8 @@ DAMAGED = (
 # Names: wider than 24 columns, of East Asian letters, with controls; an empty one, and none
 
 NAMES = (
-    ["Staatsbibliothek zu Berlin", "exactly 24 columns wide.", "国立国会図書館東京本館閲覧室", "ｶﾅ", "cafe\u0301 \u202eevil\x1b[31m", ""],
+    ["Staatsbibliothek zu Berlin", "exactly 24 columns wide.", "国立国会図書館東京本館閲覧室", "ｶﾅ", "cafe\u0301 \u202eevil\x1b[31m",
+     ""],
     [(COUNT, target, 1, 1) for target in range(7)]
     + [(COUNT, 0, 2, 7)]
     + [seen(target, 1, XML, b"<r/>") for target in range(7)]
@@ -225,10 +235,12 @@ ANSWERS = (
         (FAILED, 2, 0), (DIAG, 2, 0, 0, saved.diagnostic(BIB1, 1014)),
         (FAILED, 3, 1), (DIAG, 3, 1, 0, saved.diagnostic(OTHER_SET, 5, "x")),
         (FAILED, 4, 1), (DIAG, 4, 1, 0, saved.external(OTHER_SET, saved.element(b"\x81", b"x"))),
-        (COUNT, 5, 1, 30), (DIAG, 5, 1, 0, saved.diagnostic(BIB1, 1)), (DIAG, 5, 1, 11, saved.diagnostic(BIB1, 13, "11")),
+        (COUNT, 5, 1, 30), (DIAG, 5, 1, 0, saved.diagnostic(BIB1, 1)),
+        (DIAG, 5, 1, 11, saved.diagnostic(BIB1, 13, "11")),
         (DIAG, 5, 1, 21, saved.diagnostic(BIB1, 2)),
         (FAILED, 6, 1), (DIAG, 6, 1, 0, saved.diagnostic(BIB1, 2000)),
-        (COUNT, 7, 1, 0), (FAILED, 7, 1), (DIAG, 7, 1, 0, saved.diagnostic(BIB1, 3)), (DIAG, 7, 1, 0, saved.diagnostic(BIB1, 114, "9999")),
+        (COUNT, 7, 1, 0), (FAILED, 7, 1), (DIAG, 7, 1, 0, saved.diagnostic(BIB1, 3)),
+        (DIAG, 7, 1, 0, saved.diagnostic(BIB1, 114, "9999")),
         (FAILED, 7, 2),
     ],
     """\
@@ -277,7 +289,8 @@ SYNTAXES = (
         (COUNT, 1, 1, 15),
         # a record of MARC 21 that is read as UNIMARC
         seen(1, 16, UNIMARC, TWO),
-        seen(1, 17, UNIMARC, unimarc("aTitre", "ecomplément", more=[("210", field("  ", "cÉditeur", "dDL 2001")), ("700", field(" |", "aNom"))])),
+        seen(1, 17, UNIMARC, unimarc("aTitre", "ecomplément", more=[("210", field("  ", "cÉditeur", "dDL 2001")),
+                                                                    ("700", field(" |", "aNom"))])),
     ],
     """\
 a: 9 found, 12 shown
@@ -309,7 +322,8 @@ b: 15 found, 3 shown
 """,
 )
 
-ALL = {"letters": LETTERS, "damaged": DAMAGED, "names": NAMES, "joined": JOINED, "answers": ANSWERS, "syntaxes": SYNTAXES}
+ALL = {"letters": LETTERS, "damaged": DAMAGED, "names": NAMES, "joined": JOINED, "answers": ANSWERS,
+       "syntaxes": SYNTAXES}
 
 
 def files():

@@ -1,7 +1,7 @@
 #!/usr/bin/env python3
-"""Worlds with much of one kind: requests that wait, ranges, long records, databases, words; and with replies or requests that are too
-long to be sent. Of each, `zmeta run` and `zmeta loop` have to give the status, the list, what is told of failed connections, and the saved
-file; and `zmeta join` has to list this file's facts.
+"""Worlds with much of one kind: requests that wait, ranges, long records, databases, words; and with replies or
+requests that are too long to be sent. Of each, `zmeta run` and `zmeta loop` have to give the status, the list, what is
+told of failed connections, and the saved file; and `zmeta join` has to list this file's facts.
 
     ZMETA=PROGRAM python3 tests/program/wide.py"""
 
@@ -11,7 +11,7 @@ import sys
 import tempfile
 import time
 
-from hosts import search
+from peers import search_for
 from saved import BIB1, COUNT, DIAG, FAILED, MARC21, SEEN, diagnostic, of_facts, record, surrogate
 
 # a run has to end within so many seconds
@@ -108,7 +108,8 @@ def crowd(step, window, size, flags, moves=()):
 
 
 def released(order):
-    """Init and the search are answered, and all Presents are carried; then their replies are released in this order, and carried."""
+    """Init and the search are answered, and all Presents are carried; then their replies are released in this order,
+    and carried."""
     once = [f"to a {ALL}", "rel a 0", f"from a {ALL}"]
     return [*once, *once, f"to a {ALL}", *(f"rel a {it}" for it in order), f"from a {ALL}"]
 
@@ -119,7 +120,8 @@ def crowds():
             yield crowd(1, 64, size, flags)
             yield crowd(3, 64, size, flags)
     yield crowd(3, 64, RECORDS, "n")
-    # 64 replies wait: they are released from the last to the first; some from the midst; and none, since there is no 65th
+    # 64 replies wait: they are released from the last to the first; some from the midst; and none, since there is no
+    # 65th
     for order in (range(63, -1, -1), (40, 20, 20, 30, 0, 59), (64, 4000)):
         yield crowd(1, 64, RECORDS, "cn", released(order))
         yield crowd(1, 64, 2 * SHORT, "c", released(order))
@@ -176,8 +178,9 @@ def all_long():
     for size in (RECORDS, 45_000, LONG, LONG - 1):
         yield long(10, size)
         yield long(1, size)
-    yield long(20, RECORDS, ["to a 5000", f"to a {ALL}", "rel a 0", "from a 20", f"from a {ALL}", "to a 4097", f"to a {ALL}", "rel a 0",
-                             f"from a {ALL}", f"to a {ALL}", "rel a 0", "from a 4097", "from a 4096", "from a 1", "from a 100000"])
+    yield long(20, RECORDS, ["to a 5000", f"to a {ALL}", "rel a 0", "from a 20", f"from a {ALL}", "to a 4097",
+                             f"to a {ALL}", "rel a 0", f"from a {ALL}", f"to a {ALL}", "rel a 0", "from a 4097",
+                             "from a 4096", "from a 1", "from a 100000"])
     # a record of a million octets, and one that is too long for any reply
     world = World()
     octets = ["m" * 1_000_000, "n" * (RECORDS - 20), "o"]
@@ -212,7 +215,8 @@ NUMBERS = "one two three four five six seven eight nine ten"
 
 
 def words():
-    """A title of ten words, found by ten words in their order; a query of ten tokens, of ten terms, and of thirty-two."""
+    """A title of ten words, found by ten words in their order; a query of ten tokens, of ten terms, and of
+    thirty-two."""
     world = World()
     titles = [NUMBERS, "ten nine eight seven six five four three two one", "one two three"]
     queries = {
@@ -238,8 +242,8 @@ def unsent():
     """A search of as many octets as a message may have is sent, and one of one more is not; the others are asked."""
     for more in (0, 1):
         world = World()
-        term = "x" * (2 * MESSAGE + more - len(search("x" * MESSAGE)))
-        assert len(search(term)) == MESSAGE + more
+        term = "x" * (2 * MESSAGE + more - len(search_for("x" * MESSAGE)))
+        assert len(search_for(term)) == MESSAGE + more
         for name in "abc":
             world.target(name)
             world.database("d", entries(name, 1))
@@ -255,8 +259,8 @@ def unsent():
 
 
 def lost():
-    """A reply of more octets than a message may have is lost, and its connection ends, without a Close: the text of an attribute set is
-    longer than its encoding."""
+    """A reply of more octets than a message may have is lost, and its connection ends, without a Close: the text of an
+    attribute set is longer than its encoding."""
     world = World()
     for name in "abc":
         world.target(name)
@@ -271,7 +275,8 @@ def lost():
 
 
 def named():
-    """A reply that is longer than its records may be, since the name of a database is, and a diagnostic stands for each."""
+    """A reply that is longer than its records may be, since the name of a database is, and a diagnostic stands for
+    each."""
     world, name = World(), "d" * (RECORDS + 10)
     world.target("a")
     world.database(name, entries("a", 2))
@@ -302,7 +307,8 @@ def answer_of(zmeta, room, *given):
 
 def differs(found, due):
     """A short word on answers that differ, which may be very long."""
-    return f"status {found[0]}, {len(found[1])} octets, {found[2][:200]}; {due[0]}, {len(due[1])} octets, {due[2][:200]} are due"
+    one, other = (f"{it[0]}, {len(it[1])} octets, {it[2][:200]}" for it in (found, due))
+    return f"status {one}; {other} are due"
 
 
 def fault_of(zmeta, room, number, world):
@@ -326,7 +332,8 @@ def main():
     begun = time.monotonic()
     with tempfile.TemporaryDirectory() as room:
         worlds = [*made()]
-        found = [it for it in (fault_of(os.path.abspath(os.environ["ZMETA"]), room, *it) for it in enumerate(worlds)) if it]
+        program = os.path.abspath(os.environ["ZMETA"])
+        found = [it for it in (fault_of(program, room, *it) for it in enumerate(worlds)) if it]
     print(f"{len(worlds)} worlds, in {time.monotonic() - begun:.1f} s", *found, sep="\n")
     return 1 if found else 0
 

@@ -1,5 +1,5 @@
-"""Worlds, each with the list that `zmeta run` is to print of it: one world run in many ways, and worlds of no kind in particular, whose
-lists are worked out from their entries alone, with moves and without."""
+"""Worlds, each with the list that `zmeta run` is to print of it: one world run in many ways, and worlds of no kind in
+particular, whose lists are worked out from their entries alone, with moves and without."""
 
 import random
 
@@ -7,8 +7,8 @@ STEPS = (1, 3, 1000)
 WINDOWS = (1, 4, 64)
 FLAGS = ("-", "c", "n", "cn")
 
-# A little is carried, and much is left for the rounds; and the replies of one connection are released in reverse, once they
-# are there.
+# A little is carried, and much is left for the rounds; and the replies of one connection are released in reverse, once
+# they are there.
 MOVES = (
     "from a 9, rel a 0, to c 4294967295, rel c 0, rel c 0, from c 20, from c 0, from c 1000, to c 10",
     "to c 1000, rel c 0, from c 1000, to c 1000, rel c 0, from c 1000, "
@@ -39,7 +39,8 @@ def question(name, want, word):
 
 
 def three(step, window, flags, size, last, want):
-    """Three catalogues, of which the last finds seven records; the size is that of the first two, `last` that of the last."""
+    """Three catalogues, of which the last finds seven records; the size is that of the first two, `last` that of the
+    last."""
     titles = {"a": ["emma"], "b": ["dune"], "c": ["dune"] * 7}
     targets = [target(name, last if name == "c" else size, flags, titles[name]) for name in titles]
     return settings(step, window) + "".join(targets) + "".join(question(name, want, "dune") for name in titles)
@@ -59,8 +60,8 @@ def schedules(octets_of):
 
 
 def moved(octets_of):
-    """A world with moves; and with 600 rounds, in which each connection carries one octet each way, and its target releases the
-    second of its replies before the first."""
+    """A world with moves; and with 600 rounds, in which each connection carries one octet each way, and its target
+    releases the second of its replies before the first."""
     world, listed = octets_of("short.world").decode(), octets_of("short.list").decode()
     for row in MOVES:
         yield world + row.replace(", ", "\n") + "\n", listed
@@ -77,7 +78,8 @@ def wants(dice):
         last = first + dice.randrange(4)
         ranges.append((first, last))
         first = last + dice.randrange(2, 4)
-    return ",".join(f"{first}-{last}" for first, last in ranges), lambda position: any(a <= position <= b for a, b in ranges)
+    text = ",".join(f"{first}-{last}" for first, last in ranges)
+    return text, lambda position: any(a <= position <= b for a, b in ranges)
 
 
 def moves(dice, names):
