@@ -19,7 +19,7 @@ impl<W> Counted<W> {
     /// A writer with no failed call yet.
     pub(crate) fn new(writer: W) -> Counted<W>
         ensures writer { result.writer ≡ writer }
-        ensures sound { result.failures ≡ 0 }
+        ensures no_failure { result.failures ≡ 0 }
     {
         Counted {
             writer,

@@ -219,7 +219,7 @@ impl<F: Folder> Read for NamedFile<'_, '_, F> {
 /// Returns the file at a path as an `Input`. It is not opened yet.
 pub fn file_at<'f, 'a, F: Folder>(files: &'f F, path: &'a str) -> Input<'a, NamedFile<'f, 'a, F>>
     ensures path { result.path ≡ path.entry }
-    ensures sound { result.has_failed ≡ false }
+    ensures no_failure { result.has_failed ≡ false }
     ensures octets { opened_left F.File.remaining (F.octets result.reader.files.now result.reader.path.now)
         result.reader.file ≡ F.octets files.now path.now }
 {

@@ -29,7 +29,7 @@ impl<'a, R: Read> Input<'a, R> {
     pub fn new(path: &'a str, reader: R) -> Input<'a, R>
         ensures path { result.path ≡ path.entry }
         ensures reader { result.reader ≡ reader }
-        ensures sound { result.has_failed ≡ false }
+        ensures no_failure { result.has_failed ≡ false }
     {
         Input {
             path,
@@ -50,7 +50,7 @@ impl<'a, R: Read> Input<'a, R> {
         ensures whole { IfOk result (λ v. IfSome (R.remaining self.old.reader) (λ xs. v.items ≡ xs)) }
         ensures end { OnOk result (IsAtEnd (R.remaining self.new.reader)) }
         ensures short { IfOk result (λ v. vec_len v ≤ 4096 * 1000000) }
-        ensures sound { OnOk result (self.new.has_failed ≡ self.old.has_failed) }
+        ensures no_failure { OnOk result (self.new.has_failed ≡ self.old.has_failed) }
         // the path, and the faults
         ensures path { self.new.path ≡ self.old.path }
         ensures err { IfErr result (λ f. ((f ≡ Fault.Read self.old.path) × (self.new.has_failed ≡ true))

@@ -26,7 +26,7 @@ impl<'a, W> Output<'a, W> {
     pub fn new(path: &'a str, writer: W) -> Output<'a, W>
         ensures path { result.path ≡ path.entry }
         ensures writer { result.writer.writer ≡ writer }
-        ensures sound { result.writer.failures ≡ 0 }
+        ensures no_failure { result.writer.failures ≡ 0 }
         ensures short { result.words ≡ None }
     {
         Output {

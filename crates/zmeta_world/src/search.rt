@@ -177,7 +177,7 @@ fn read_search(alloc: Global, search: &Search<'_>) -> Result<Parsed, SearchError
 #[tactic(auto, using(crate::proofs::Searching::readable, crate::proofs::Searching::no_fault))]
 fn check_search(alloc: Global, search: &Search<'_>) -> Result<(), SearchError>
     ensures readable { IfOk result (λ _. IsReadable (search_texts search.now)) }
-    ensures sound { IfOk result (λ _. HasNoFault (search_texts search.now)) }
+    ensures no_fault { IfOk result (λ _. HasNoFault (search_texts search.now)) }
     ensures err { IfErr result (IsSearchFault (search_texts search.now)) }
 {
     let parsed = read_search(alloc, search)?;
@@ -252,7 +252,7 @@ impl World {
         requires { IsFit self }
         ensures put { IfOk result (IsWorldWith (search_texts search.now) self) }
         ensures fit { IfOk result IsFit }
-        ensures sound { IfOk result (λ _. HasNoFault (search_texts search.now)) }
+        ensures no_fault { IfOk result (λ _. HasNoFault (search_texts search.now)) }
         ensures err { IfErr result (IsSearchFault (search_texts search.now)) }
     {
         check_search(alloc, search)?;
