@@ -10,12 +10,14 @@ clause, call, crate, file, command, option and make target in back quotes, each 
 - In "`Definition`; `parse` (`ok`)" the clause leads to the definition. On the page of a crate some contract of it does.
 - Other words in parentheses on such a page are clauses or definitions of the calls beside them.
 
-The status is 1 where a name is not there. Names that are wrong, in sentences of its own, have to be found first."""
+The status is 1 where a name is not there, or where docs/FILES.md is not as files.py prints it. Names that are wrong, in
+sentences of its own, have to be found first."""
 
 import collections
 import re
 import sys
 
+import files as source_files
 from declared import CRATES, TOP, WORDS, Library
 
 FOLDERS = "bench|crates|docs|examples|install|scripts|tests"
@@ -459,7 +461,10 @@ def main(words):
         if it.fault == "":
             print(f"passed over: {it.page}:{it.line}: {it.text}")
     print(f"pages: {sum(it.fault is None for it in notes)} names of {len(files)} pages are there")
-    return 1 if faults else 0
+    is_due = (TOP / "docs/FILES.md").read_text(encoding="utf-8") != source_files.page()
+    if is_due:
+        print("pages: docs/FILES.md is due: python3 tests/program/files.py > docs/FILES.md", file=sys.stderr)
+    return 1 if faults or is_due else 0
 
 
 if __name__ == "__main__":
