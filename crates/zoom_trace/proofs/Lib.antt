@@ -9,3 +9,5 @@ pub mod Noting
 pub mod JsonLines
 pub mod Replaying
 pub mod Repeating
+pub mod TracedLines
+pub mod Recorded

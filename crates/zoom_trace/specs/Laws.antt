@@ -1,5 +1,6 @@
 -- A line is the line of one entry, and a trace that was written is read again.
-use Rattle.std.specs.Prelude.{◌≡◌, ℕ, false, List, [], ◌++◌, slice_get, Some}
+use Rattle.std.specs.Prelude.{◌≡◌, ℕ, false, List, [], ◌++◌, slice_get, Option, Some}
+use Rattle.std.specs.Io.KnownBytes.{Appends}
 use Rattle.zoom_asking.specs.declared.asking.Asking.{Asking}
 use Rattle.zoom_asking.specs.Inquiries.{Inquiry, Entry}
 use Rattle.zoom_asking.specs.Hosts.{AskedConnection}
@@ -8,10 +9,12 @@ use Rattle.zoom_asking.specs.Asked.{AreReports}
 use Rattle.zoom_asking.specs.Laws.{AskedOn, SameHost}
 use Rattle.zoom_trace.specs.declared.entry.TraceEntry.{TraceEntry}
 use Rattle.zoom_trace.specs.declared.history.Trace.{Trace}
+use Rattle.zoom_trace.specs.declared.tracing.Tracer.{Tracer}
 use Rattle.zoom_trace.specs.Lines.{line_of, trace_of, IsWritable, AreWritable}
 use Rattle.zoom_trace.specs.Json.{entry_object, IsJsonObject}
 use Rattle.zoom_trace.specs.Replays.{history_after, AreFedWith}
 use Rattle.zoom_trace.specs.Traces.{IsTrace, IsRefusedAt}
+use Rattle.zoom_trace.specs.Tracing.{IsTracedOn}
 
 -- two entries with one line are the same
 abbrev pub LineLaw : Type 0
@@ -58,3 +61,19 @@ SameLaw =
     (i : Inquiry) (history : List Entry) (one other : Asking) (c : ℕ) (asks : AskedOn i c) (x y : AskedConnection)
     → (a : AskingAfter i history one) → (b : AskingAfter i history other)
     → slice_get a.hosts c ≡ Some x → slice_get b.hosts c ≡ Some y → SameHost i.settings asks.question x y
+
+-- While no call of its sink failed, a tracer without lines that wait has written those that waited, and the lines of
+-- the entries that were put behind them.
+abbrev pub WrittenLaw : {W : Type 0} → (W → Option (List ℕ)) → Type 0
+WrittenLaw {W} contents =
+    (entries : List TraceEntry) (old new : Tracer W) → IsTracedOn contents entries old new → new.has_failed ≡ false
+    → new.lines.items ≡ [] → Appends (contents old.sink) (contents new.sink) (old.lines.items ++ trace_of entries)
+
+-- The first entries of a trace tell nothing, and it was read again: an asking of the same inquiry that is fed it is
+-- after the history of the entries behind them.
+abbrev pub FollowedLaw : Type 0
+FollowedLaw =
+    (i : Inquiry) (before entries : List TraceEntry) (trace : Trace) (first new : Asking)
+    → history_after before [] ≡ [] → AreWritable (before ++ entries) → IsTrace (trace_of (before ++ entries)) trace
+    → AskingAfter i [] first → AreFedWith trace.entries.items first new
+    → AskingAfter i (history_after entries []) new

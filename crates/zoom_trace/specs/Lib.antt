@@ -4,5 +4,7 @@ pub mod Results
 pub mod Traces
 pub mod Replays
 pub mod Notices
+pub mod Tracing
+pub mod Recording
 pub mod Json
 pub mod Laws

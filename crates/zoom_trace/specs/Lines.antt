@@ -108,6 +108,11 @@ line_of e = codes "{\"at\":" ++ decimal e.at ++ traced_members e.what ++ codes "
 abbrev pub ended_line : TraceEntry → List ℕ
 ended_line e = line_of e ++ codes "\n"
 
+-- the line of octets that came or were sent on a connection, with the line feed that ends it
+abbrev pub carried_line : ℕ → ℕ → List ℕ → List ℕ → List ℕ
+carried_line at c name octets =
+    codes "{\"at\":" ++ decimal at ++ connection_member c ++ octets_member name octets ++ codes "}\n"
+
 -- the lines of entries, in their order
 abbrev pub trace_of : List TraceEntry → List ℕ
 trace_of entries = flat_map ended_line entries

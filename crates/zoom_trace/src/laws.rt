@@ -1,6 +1,7 @@
 //! Laws of traces. Each is the contract of a function that does nothing.
-ghost use Rattle.zoom_trace.specs.Laws.{LineLaw, JsonLaw, WholeLaw, PrefixLaw, SoundLaw, ReportsLaw, ReplayLaw, SameLaw};
+ghost use Rattle.zoom_trace.specs.Laws.{LineLaw, JsonLaw, WholeLaw, PrefixLaw, SoundLaw, ReportsLaw, ReplayLaw, FollowedLaw, WrittenLaw, SameLaw};
 
+use std::io::Write;
 use zoom_pool::driving::driven_laws;
 use zoom_pool::laws::{one_input, one_transcript};
 use zplan::laws::number_law;
@@ -38,6 +39,16 @@ pub fn reports_law()
 /// An asking that is fed what was read of the lines that were written is after the history that was written.
 pub fn replay_law()
     ensures { ReplayLaw }
+{}
+
+/// The same of a trace whose first entries tell nothing: it leaves the asking after the history of those behind them.
+pub fn followed_law()
+    ensures { FollowedLaw }
+{}
+
+/// A tracer of whose sink no call failed, and that has no lines that wait, has written all.
+pub fn written_law<W: Write>()
+    ensures { WrittenLaw W.contents }
 {}
 
 /// What becomes of each connection is a function of what was reported, and when: the same became of the connections of

@@ -10,8 +10,10 @@ pub mod laws;
 mod notice;
 mod noticing;
 mod reading;
+mod recording;
 #[cfg(test)]
 mod tests;
+mod tracing;
 mod writing;
 
 pub use entry::{Given, TraceEntry, Traced};
@@ -21,4 +23,6 @@ pub use history::{Trace, read_trace};
 pub use notice::Notice;
 pub use noticing::notices;
 pub use reading::read_entry;
+pub use recording::Recorder;
+pub use tracing::Tracer;
 pub use writing::put_entry;

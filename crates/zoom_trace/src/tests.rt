@@ -1,16 +1,21 @@
 // Traces, worked out by hand: what is read of them, and what a replay of them leaves.
+use crate::entry::{TraceEntry, Traced};
 use crate::fault::TraceError;
 use crate::feeding::replay;
 use crate::history::read_trace;
 use crate::notice::Notice;
 use crate::noticing::notices;
+use crate::recording::Recorder;
+use crate::tracing::Tracer;
 use crate::writing::put_entry;
 use bytes::Bytes;
 use std::alloc::Global;
+use std::io;
+use std::io::{ErrorKind, Write};
 use std::process::Abort;
 use std::test::Fail;
 use zber::Seq;
-use zoom_asking::{AskedHost, Asking, Manner};
+use zoom_asking::{AskedHost, Asking, Manner, Report};
 use zoom_pool::{MetaSettings, Question};
 use zquery::parse_pqf;
 
@@ -315,5 +320,127 @@ fn damaged_lines(rt: HostRuntime) -> Result<(), Fail> {
         let error = read_trace(rt.alloc(), text.as_str().as_bytes()).err();
         assert_eq!(rt; error, Some(TraceError::Refused { line: 2 }), "{line}");
     }
+    Ok(())
+}
+
+// The host of the asking with one connection.
+const HOST: AskedHost = AskedHost {
+    connect: 1_000,
+    patience: 1_000,
+};
+
+// The trace of a search: its host has two addresses, of which the first is not reached; then it ends the connection.
+const SEARCH: &str = "\
+    {\"at\":0,\"manner\":\"atOnce\"}\n\
+    {\"at\":0,\"connect\":1000}\n\
+    {\"at\":0,\"patience\":1000}\n\
+    {\"at\":0,\"total\":9000}\n\
+    {\"at\":1,\"connection\":0,\"report\":\"resolved\",\"addresses\":2}\n\
+    {\"at\":1,\"connection\":0,\"action\":\"connect\",\"attempt\":0}\n\
+    {\"at\":2,\"connection\":0,\"report\":\"unreachable\",\"attempt\":0}\n\
+    {\"at\":2,\"connection\":0,\"notice\":\"nothing\"}\n\
+    {\"at\":2,\"report\":\"tick\"}\n\
+    {\"at\":2,\"connection\":0,\"action\":\"connect\",\"attempt\":1}\n\
+    {\"at\":3,\"connection\":0,\"report\":\"connected\",\"attempt\":1}\n\
+    {\"at\":3,\"connection\":0,\"action\":\"read\"}\n";
+
+// A sink that takes so many octets, and then fails.
+#[derive(Drop)]
+struct Short {
+    taken: Vec<u8>,
+    room: usize,
+}
+
+impl Write for Short {
+    fn write(&mut self, buf: &[u8]) -> io::Result<usize> {
+        let count = buf.len().min(self.room);
+        if count == 0 && !buf.is_empty() {
+            return Err(io::Error::from(ErrorKind::StorageFull));
+        }
+        self.room = self.room.saturating_sub(count);
+        match self.taken.extend_from_slice(&buf[..count]) {
+            Ok(()) => Ok(count),
+            Err(_) => Err(io::Error::from(ErrorKind::OutOfMemory)),
+        }
+    }
+
+    fn flush(&mut self) -> io::Result<()> {
+        Ok(())
+    }
+}
+
+// Records a search up to its first octets. Returns these.
+fn record<W: Write + Drop>(alloc: Global, recorder: &mut Recorder<W>) -> Option<Vec<u8>> {
+    let mut sent = Vec::new(alloc);
+    recorder.begin(0, Manner::AtOnce, HOST, Some(9_000)).ok()?;
+    if recorder.connections() == 0 {
+        return None;
+    }
+    recorder.report(1, 0, Report::Resolved(2)).ok()?;
+    recorder.next_action(1).ok()?;
+    recorder.write_out();
+    if recorder.connections() == 0 {
+        return None;
+    }
+    recorder.report(2, 0, Report::Unreachable(0)).ok()?;
+    recorder.notice(2, 0, Notice::Nothing).ok()?;
+    recorder.tick(2).ok()?;
+    recorder.next_action(2).ok()?;
+    recorder.write_out();
+    if recorder.connections() == 0 {
+        return None;
+    }
+    recorder.report(3, 0, Report::Connected(1)).ok()?;
+    recorder.next_action(3).ok()?;
+    if recorder.connections() == 0 {
+        return None;
+    }
+    recorder.outgoing(3, 0, &mut sent).ok()?;
+    recorder.write_out();
+    Some(sent)
+}
+
+// The trace of the search with its first octets.
+fn searched(alloc: Global, sent: &[u8]) -> Option<Vec<u8>> {
+    let mut due = Vec::new(alloc);
+    due.extend_from_slice(SEARCH.as_bytes()).ok()?;
+    let octets = Bytes::copy_from_slice(alloc, sent).ok()?;
+    let what = Traced::Sent { c: 0, octets };
+    put_entry(alloc, &TraceEntry { at: 3, what }, &mut due).ok()?;
+    Some(due)
+}
+
+// Whether a sink with room for so many octets gets that front of the trace, or all, and it is known whether it failed.
+fn is_traced(alloc: Global, room: usize) -> Option<bool> {
+    let taken = Vec::new(alloc);
+    let tracer = Tracer::new(alloc, Short { taken, room });
+    let mut recorder = Recorder::new(alloc, begin(alloc)?, Some(tracer));
+    let sent = record(alloc, &mut recorder)?;
+    let due = searched(alloc, sent.as_slice())?;
+    let (_, trace) = recorder.into_parts();
+    let trace = trace?;
+    let is_told = trace.has_failed() == (room < due.len());
+    let taken = trace.into_sink().taken;
+    let front = due.as_slice().get(..room).unwrap_or(due.as_slice());
+    Some(is_told && taken.as_slice() == front)
+}
+
+// Whether a search without a trace sends the same.
+fn is_same_untraced(alloc: Global) -> Option<bool> {
+    let tracer = Tracer::new(alloc, Vec::new(alloc));
+    let mut traced = Recorder::new(alloc, begin(alloc)?, Some(tracer));
+    let mut plain: Recorder<Vec<u8>> = Recorder::new(alloc, begin(alloc)?, None);
+    let sent = record(alloc, &mut traced)?;
+    let others = record(alloc, &mut plain)?;
+    let (_, trace) = plain.into_parts();
+    Some(!sent.is_empty() && sent.as_slice() == others.as_slice() && trace.is_none())
+}
+
+#[test]
+fn searches_are_traced(rt: HostRuntime) -> Result<(), Fail> {
+    for room in [0, 1, 28, 200, 300, 600, 100_000] {
+        assert!(rt; is_traced(rt.alloc(), room) == Some(true), "{room}");
+    }
+    assert!(rt; is_same_untraced(rt.alloc()) == Some(true));
     Ok(())
 }

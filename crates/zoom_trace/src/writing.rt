@@ -1,7 +1,8 @@
 //! Writes the line of an entry, member by member.
 ghost use Rattle.std.specs.Prelude.{◌≡◌, ◌++◌, OnOk, OnErr, codes};
 ghost use Rattle.std.specs.Fmt.{decimal};
-ghost use Rattle.zoom_trace.specs.Lines.{number_member, text_member, octets_member, connection_member, counted, report_members, task_members, manner_name, notice_name, given_members, traced_members, line_of, ended_line};
+ghost use Rattle.zoom_trace.specs.Lines.{number_member, text_member, octets_member, connection_member, counted, report_members, task_members, manner_name, notice_name, given_members, traced_members, line_of, ended_line, carried_line, trace_of};
+ghost use Rattle.zoom_trace.specs.Recording.{received, sent};
 
 use crate::entry::{Given, TraceEntry, Traced};
 use crate::notice::Notice;
@@ -200,6 +201,65 @@ pub(crate) fn put_line(
     put_decimal(alloc, entry.at, out)?;
     put_traced(alloc, &entry.what, out)?;
     out.extend_from_slice(b"}")
+}
+
+/// Appends the line of an entry, and a line feed. After `AllocError` a front of them may be appended.
+pub(crate) fn put_ended(
+    alloc: Global,
+    entry: &TraceEntry,
+    out: &mut Vec<u8>,
+) -> Result<(), AllocError>
+    ensures { OnOk result (out.new.items ≡ out.old.items ++ ended_line entry.now) }
+{
+    put_line(alloc, entry, out)?;
+    out.push(b'\n')?;
+    Ok(())
+}
+
+/// Appends the line of octets that came or were sent on a connection, and a line feed.
+fn put_carried(
+    alloc: Global,
+    at: u64,
+    c: u32,
+    name: &[u8],
+    octets: &[u8],
+    out: &mut Vec<u8>,
+) -> Result<(), AllocError>
+    ensures { OnOk result (out.new.items ≡ out.old.items ++ carried_line at c name.now octets.now) }
+{
+    out.extend_from_slice(b"{\"at\":")?;
+    put_decimal(alloc, at, out)?;
+    put_connection(alloc, c, out)?;
+    put_octets(alloc, name, octets, out)?;
+    out.extend_from_slice(b"}\n")
+}
+
+/// Appends the line of octets that came on a connection, and a line feed. The octets are not copied before.
+#[tactic(auto, unfolding(crate::specs::Lines::line_of, crate::specs::Lines::traced_members))]
+pub(crate) fn put_received(
+    alloc: Global,
+    at: u64,
+    c: u32,
+    octets: &[u8],
+    out: &mut Vec<u8>,
+) -> Result<(), AllocError>
+    ensures { OnOk result (out.new.items ≡ out.old.items ++ trace_of (received at c octets.now)) }
+{
+    put_carried(alloc, at, c, b"received", octets, out)
+}
+
+/// The same of octets that were handed out to be sent.
+#[tactic(auto, unfolding(crate::specs::Lines::line_of, crate::specs::Lines::traced_members))]
+pub(crate) fn put_sent(
+    alloc: Global,
+    at: u64,
+    c: u32,
+    octets: &[u8],
+    out: &mut Vec<u8>,
+) -> Result<(), AllocError>
+    ensures { OnOk result (out.new.items ≡ out.old.items ++ trace_of (sent at c octets.now)) }
+{
+    put_carried(alloc, at, c, b"sent", octets, out)
 }
 
 /// Appends the line of an entry, and a line feed. Returns `AllocError` if no memory is found; nothing is appended.

@@ -1,0 +1,10 @@
+use Rattle.std.proofs.Common.{arith}
+use Rattle.zoom_trace.proofs.recording.Recorder.give_up.Goals as goal
+
+pub returns : goal.returns
+returns g c = record {
+  fed = c.in_ok-give_up.ensures.after;
+  size = c.in_ok-give_up.ensures.size;
+  writable = ((omega (arith, c.ranges.now), tt), tt);
+  traced = c.in_ok-note.ensures;
+}
