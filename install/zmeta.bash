@@ -1,6 +1,6 @@
 # bash completion for zmeta
 
-_zmeta_commands='ask run loop join records serve show pqf help'
+_zmeta_commands='ask replay run loop join records serve show pqf help'
 _zmeta_syntaxes='marc21 unimarc xml sutrs opac grs1'
 _zmeta_terms='--title --author --subject --isbn --any'
 _zmeta_search="$_zmeta_terms --query --records --elements --syntax"
@@ -45,11 +45,13 @@ _zmeta_may() {
 _zmeta_options() {
     local options='' left='-h --help' option
     case $1 in
-        ask) options="--at-once $_zmeta_limits $_zmeta_families --only $_zmeta_search $_zmeta_views --heading --save --explain" ;;
+        ask) options="--at-once $_zmeta_limits $_zmeta_families --only $_zmeta_search $_zmeta_views --heading --save --trace --explain" ;;
+        replay) options="$_zmeta_views --heading --save --explain" ;;
         run | loop) options="$_zmeta_search $_zmeta_views --heading --save --explain" ;;
         join) options="$_zmeta_views --heading --save --quiet --explain" ;;
         records) options='--only --syntax --conflicts --explain' ;;
-        serve | show | pqf) options=--explain ;;
+        show) options='--trace --only --explain' ;;
+        serve | pqf) options=--explain ;;
         *) left= ;;
     esac
     for option in $options; do
@@ -61,7 +63,7 @@ _zmeta_options() {
 # The value of option $1, of which $2 is typed, and $3 stands before it in the word.
 _zmeta_value() {
     case $1 in
-        --save) _zmeta_files "$3" "$2" ;;
+        --save | --trace) _zmeta_files "$3" "$2" ;;
         --syntax) _zmeta_choose "$_zmeta_syntaxes" "$2" "$3" ;;
         --elements) _zmeta_choose 'F B' "$2" "$3" ;;
     esac
@@ -70,7 +72,7 @@ _zmeta_value() {
 # Word $2 of command $1, of which $3 is typed; the first is 0.
 _zmeta_word() {
     case $1.$2 in
-        ask.0 | run.0 | loop.0 | join.* | records.* | serve.2) _zmeta_files '' "$3" ;;
+        ask.0 | replay.0 | run.0 | loop.0 | join.* | records.* | serve.2) _zmeta_files '' "$3" ;;
         help.0) _zmeta_choose "$_zmeta_commands" "$3" ;;
     esac
 }
@@ -84,9 +86,10 @@ _zmeta_any() {
             return
             ;;
         -*) return ;;
-        ask) valued=" --only $_zmeta_limits $_zmeta_search --heading --save " ;;
+        ask) valued=" --only $_zmeta_limits $_zmeta_search --heading --save --trace " ;;
+        show) valued=' --trace --only ' ;;
         run | loop) valued=" $_zmeta_search --heading --save " ;;
-        join) valued=' --heading --save ' ;;
+        join | replay) valued=' --heading --save ' ;;
         records) valued=' --only --syntax ' ;;
     esac
     for ((i = 2; i < ${#words[@]}; i++)); do

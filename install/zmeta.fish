@@ -2,7 +2,7 @@
 
 # The options that have a value.
 set -g __zmeta_valued --connect --patience --within --only --title --author --subject --isbn --any --query --records --elements \
-    --syntax --heading --save
+    --syntax --heading --save --trace
 
 # The words before the cursor that are no options, the command first.
 function __zmeta_words
@@ -60,6 +60,7 @@ end
 
 complete -c zmeta -f
 complete -c zmeta -n __zmeta_first -a ask -d 'Asks library catalogues'
+complete -c zmeta -n __zmeta_first -a replay -d 'Prints again what ask printed, from its trace'
 complete -c zmeta -n __zmeta_first -a run -d 'Runs searches against catalogues in memory'
 complete -c zmeta -n __zmeta_first -a loop \
     -d 'Runs searches against catalogues in memory, over this machine\'s network'
@@ -69,7 +70,7 @@ complete -c zmeta -n __zmeta_first -a serve -d 'Serves a catalogue in memory to 
 complete -c zmeta -n __zmeta_first -a show -d 'Shows what recorded Z39.50 messages say'
 complete -c zmeta -n __zmeta_first -a pqf -d 'Shows how a query is understood, and how it goes out'
 complete -c zmeta -n __zmeta_first -a help -d 'Print this message or the help of the given subcommand(s)'
-complete -c zmeta -n '__zmeta_at 1 help' -a 'ask run loop join records serve show pqf help'
+complete -c zmeta -n '__zmeta_at 1 help' -a 'ask replay run loop join records serve show pqf help'
 
 complete -c zmeta -n 'not __zmeta_in help' -s h -l help -d 'Print help'
 complete -c zmeta -n __zmeta_first -s V -l version -d 'Print version'
@@ -107,20 +108,26 @@ complete -c zmeta -n '__zmeta_in ask run loop; and __zmeta_lacks --elements' -l 
 complete -c zmeta -n '__zmeta_in ask run loop; and __zmeta_lacks --syntax' -l syntax -x \
     -a 'marc21 unimarc xml sutrs opac grs1' \
     -d 'Asks every catalogue for records of this syntax: a name as marc21, or an OID'
-complete -c zmeta -n '__zmeta_in ask run loop join; and __zmeta_lacks --titles --fields --json --hex --html' -l titles \
+complete -c zmeta -n '__zmeta_in ask replay run loop join; and __zmeta_lacks --titles --fields --json --hex --html' -l titles \
     -d 'Prints years and titles, to be read, in place of the list'
-complete -c zmeta -n '__zmeta_in ask run loop join; and __zmeta_lacks --titles --fields --json --hex --html' -l fields \
+complete -c zmeta -n '__zmeta_in ask replay run loop join; and __zmeta_lacks --titles --fields --json --hex --html' -l fields \
     -d 'Prints what --titles prints, and below each row the fields of its record'
-complete -c zmeta -n '__zmeta_in ask run loop join; and __zmeta_lacks --titles --fields --json --hex --html' -l json \
+complete -c zmeta -n '__zmeta_in ask replay run loop join; and __zmeta_lacks --titles --fields --json --hex --html' -l json \
     -d 'Prints a JSON object a line, for programs, in place of the list'
-complete -c zmeta -n '__zmeta_in ask run loop join; and __zmeta_lacks --titles --fields --json --hex --html' -l hex \
+complete -c zmeta -n '__zmeta_in ask replay run loop join; and __zmeta_lacks --titles --fields --json --hex --html' -l hex \
     -d 'Prints the octets of records in hexadecimal'
-complete -c zmeta -n '__zmeta_in ask run loop join; and __zmeta_lacks --titles --fields --json --hex --html' -l html \
+complete -c zmeta -n '__zmeta_in ask replay run loop join; and __zmeta_lacks --titles --fields --json --hex --html' -l html \
     -d 'Prints a page for a browser (HTML) in place of the list'
-complete -c zmeta -n '__zmeta_in ask run loop join; and __zmeta_lacks --heading' -l heading -x \
+complete -c zmeta -n '__zmeta_in ask replay run loop join; and __zmeta_lacks --heading' -l heading -x \
     -d 'Is the heading of the page that --html prints'
-complete -c zmeta -n '__zmeta_in ask run loop join; and __zmeta_lacks --save' -l save -r -F \
+complete -c zmeta -n '__zmeta_in ask replay run loop join; and __zmeta_lacks --save' -l save -r -F \
     -d 'Saves what was brought, in the file OUT'
+complete -c zmeta -n '__zmeta_in ask; and __zmeta_lacks --trace' -l trace -r -F \
+    -d 'Writes all that happens, with its time, in the file TRACE while it happens'
+complete -c zmeta -n '__zmeta_in show; and __zmeta_lacks --trace' -l trace -r -F \
+    -d 'Shows the messages of the file TRACE, which ask --trace wrote, with their times'
+complete -c zmeta -n '__zmeta_in show' -l only -x \
+    -d 'Shows just what was said with this catalogue; may be given several times'
 complete -c zmeta -n '__zmeta_in join; and __zmeta_lacks --quiet --titles --fields --json --hex --html' -l quiet \
     -d 'Prints no list: merges the files piece by piece, whatever their size'
 complete -c zmeta -n '__zmeta_in records' -l only -x \
@@ -131,9 +138,9 @@ complete -c zmeta -n '__zmeta_in records; and __zmeta_lacks --syntax' -l syntax 
 complete -c zmeta -n '__zmeta_in records; and __zmeta_lacks --conflicts' -l conflicts \
     -d 'Writes all records of a position for which several are known'
 complete -c zmeta -l explain \
-    -n '__zmeta_in ask run loop join records serve show pqf; and __zmeta_lacks --explain' \
+    -n '__zmeta_in ask replay run loop join records serve show pqf; and __zmeta_lacks --explain' \
     -d 'Says below each fault, in words, what is wrong and what to write; terminals get that without it'
 
-complete -c zmeta -n '__zmeta_at 1 ask run loop join records' -F
+complete -c zmeta -n '__zmeta_at 1 ask replay run loop join records' -F
 complete -c zmeta -n '__zmeta_in join records; and not __zmeta_at 1 join records' -F
 complete -c zmeta -n '__zmeta_at 3 serve' -F

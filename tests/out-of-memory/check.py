@@ -34,6 +34,11 @@ RUNS = [
     (["run", "tests/out-of-memory/moves.world"], None),
     (["loop", "--save", SAVED, "examples/libraries.world"], None),
     (["ask", "--save", SAVED, "tests/program/files/hosts.world"], None),
+    # a trace that is written, and one that is replayed and shown
+    (["ask", "--trace", "/dev/null", "tests/program/files/hosts.world"], None),
+    (["replay", "--titles", "--save", SAVED, "examples/traces/three-servers.trace"], None),
+    (["replay", "examples/traces/broken-off.trace"], None),
+    (["show", "--trace", "examples/traces/refused.trace", "--only", "small server"], None),
     (["join", "examples/monday.saved", "examples/tuesday.saved"], None),
     # a file of all, with the list, and merged in pieces
     (["join", "--save", SAVED, "examples/monday.saved", "examples/tuesday.saved"], None),

@@ -1,7 +1,7 @@
 #!/usr/bin/env python3
 """Runs the program on rows, whole views, worlds, mutilated records, large input, hosts, a terminal, and streams that
-fail or are slow, talks to its server, and compares what it prints with what is due; and the completions of command lines
-with rows and with its help.
+fail or are slow, talks to its server, replays traces, and compares what it prints with what is due; and the completions
+of command lines with rows and with its help.
 
     python3 tests/program/check.py       (once the program is built; ZMETA may name another build)
 
@@ -36,6 +36,7 @@ import served
 import stops
 import streams
 import terminal
+import traces
 import views
 import wide
 import worlds
@@ -183,6 +184,9 @@ def main():
         print("program: long texts over slow streams")
         faults += stops.faults(ZMETA, room)
         print(f"program: {len(stops.HOSTS)} hosts that stop, in the view and in JSON")
+        found, count = traces.faults(ZMETA, room)
+        faults += found
+        print(f"program: {count} traces, replayed, cut and damaged")
         faults += saving.faults(ZMETA, room)
         print("program: saved files where saving may fail")
         faults += merging.faults(ZMETA)

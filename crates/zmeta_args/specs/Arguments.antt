@@ -11,7 +11,7 @@ use Rattle.zmeta_args.specs.declared.arguments.LimitOptions.{LimitOptions}
 use Rattle.zmeta_args.specs.declared.arguments.CommandLine.{CommandLine}
 use Rattle.zmeta_args.specs.declared.arguments.Arguments.{Arguments}
 use Rattle.zmeta_args.specs.declared.arguments.TheConstants.{HEADING}
-use Rattle.zmeta_args.specs.declared.arguments.Arguments.TheVariants.{Show, Pqf, Join, Records, Run, Ask, Loop, Serve}
+use Rattle.zmeta_args.specs.declared.arguments.Arguments.TheVariants.{Show, Dialogue, Pqf, Join, Records, Run, Ask, Replay, Loop, Serve}
 use Rattle.zmeta_args.specs.Texts.{texts_of, now_of}
 
 -- the argument has this value
@@ -112,7 +112,10 @@ HasWorld found world saved search view = HasValue found (codes "FILE") world
 
 -- the arguments of the command with this name, as they were found
 abbrev pub AreArgumentsOf : List ℕ → Found → Arguments → Type 0
-AreArgumentsOf name found Show = name ≡ codes "show"
+AreArgumentsOf name found Show = (name ≡ codes "show") × (first_value found (codes "trace") ≡ None)
+AreArgumentsOf name found (Dialogue trace only) =
+    (name ≡ codes "show") × HasValue found (codes "trace") trace.now
+    × HasValues found (codes "only") (texts_of only.items)
 AreArgumentsOf name found (Pqf text) = (name ≡ codes "pqf") × HasValue found (codes "TEXT") text.now
 AreArgumentsOf name found (Join first others saved quiet view) =
     (name ≡ codes "join") × HasValue found (codes "A") first.now
@@ -124,10 +127,13 @@ AreArgumentsOf name found (Records first others only syntax conflicts) =
     × (now_of syntax ≡ first_value found (codes "syntax")) × HasFlag found (codes "conflicts") conflicts
 AreArgumentsOf name found (Run world saved search view) =
     (name ≡ codes "run") × HasWorld found world.now (now_of saved) search view
-AreArgumentsOf name found (Ask world saved at_once only limits search view) =
+AreArgumentsOf name found (Ask world saved trace at_once only limits search view) =
     (name ≡ codes "ask") × HasWorld found world.now (now_of saved) search view
-    × HasFlag found (codes "at-once") at_once × HasValues found (codes "only") (texts_of only.items)
-    × HasLimits found limits
+    × (now_of trace ≡ first_value found (codes "trace")) × HasFlag found (codes "at-once") at_once
+    × HasValues found (codes "only") (texts_of only.items) × HasLimits found limits
+AreArgumentsOf name found (Replay trace saved view) =
+    (name ≡ codes "replay") × HasValue found (codes "TRACE") trace.now
+    × (now_of saved ≡ first_value found (codes "save")) × HasView found view
 AreArgumentsOf name found (Loop world saved search view) =
     (name ≡ codes "loop") × HasWorld found world.now (now_of saved) search view
 AreArgumentsOf name found (Serve address whose world count) =

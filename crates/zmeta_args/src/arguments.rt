@@ -72,6 +72,12 @@ pub struct LimitOptions {
 pub enum Arguments<'a> {
     /// Print the messages whose hexadecimal digits standard input has.
     Show,
+    /// Print the messages of a trace with their times: with the catalogues of these names, or with all if `only` is
+    /// empty.
+    Dialogue {
+        trace: &'a str,
+        only: Vec<&'a str>,
+    },
     /// Print a query and its encoding.
     Pqf {
         text: &'a str,
@@ -102,14 +108,22 @@ pub enum Arguments<'a> {
         conflicts: bool,
     },
     /// Ask the hosts of a world file over TCP, at once or one after the other, and print the list. Only questions
-    /// to these names are asked, or all if `only` is empty. Save the facts if `saved` is a path.
+    /// to these names are asked, or all if `only` is empty. Save the facts if `saved` is a path. Write all that happens
+    /// in a trace, if `trace` is a path.
     Ask {
         world: &'a str,
         saved: Option<&'a str>,
+        trace: Option<&'a str>,
         at_once: bool,
         only: Vec<&'a str>,
         limits: LimitOptions,
         search: SearchOptions<'a>,
+        view: View<'a>,
+    },
+    /// Print what the `Ask` printed that wrote this trace. Save the facts if `saved` is a path.
+    Replay {
+        trace: &'a str,
+        saved: Option<&'a str>,
         view: View<'a>,
     },
     /// As `Run`, but over TCP on 127.0.0.1 and without moves.
@@ -234,6 +248,7 @@ fn arguments_of<'a>(
         "ask" => asks_of(alloc, found),
         "run" => runs_of(alloc, found),
         "loop" => loops_of(alloc, found),
+        "show" => shows_of(alloc, found),
         _ => Ok(single_of(name, found)),
     }
 }
@@ -304,12 +319,24 @@ fn asks_of<'a>(alloc: Global, found: &ArgMatches<'a>) -> Result<Option<Arguments
     Ok(Some(Arguments::Ask {
         world,
         saved: found.get_str("save"),
+        trace: found.get_str("trace"),
         at_once: found.get_flag("at-once"),
         only,
         limits: limits_of(found),
         search,
         view: view_of(found),
     }))
+}
+
+/// Returns `show`, with its trace if there is one.
+fn shows_of<'a>(alloc: Global, found: &ArgMatches<'a>) -> Result<Option<Arguments<'a>>, AllocError>
+    ensures asks { IfOk result (λ arguments. IfSome arguments (AreArgumentsOf (codes "show") (found_of found.now))) }
+{
+    let Some(trace) = found.get_str("trace") else {
+        return Ok(Some(Arguments::Show));
+    };
+    let only = values_of(alloc, found, "only")?;
+    Ok(Some(Arguments::Dialogue { trace, only }))
 }
 
 /// Returns `run` with its world file.
@@ -391,9 +418,13 @@ fn single_of<'a>(name: &str, found: &ArgMatches<'a>) -> Option<Arguments<'a>>
     ensures asks { IfSome result (AreArgumentsOf name.now (found_of found.now)) }
 {
     match name {
-        "show" => Some(Arguments::Show),
         "pqf" => Some(Arguments::Pqf {
             text: found.get_str("TEXT")?,
+        }),
+        "replay" => Some(Arguments::Replay {
+            trace: found.get_str("TRACE")?,
+            saved: found.get_str("save"),
+            view: view_of(found),
         }),
         "serve" => Some(Arguments::Serve {
             address: found.get_str("ADDRESS")?,

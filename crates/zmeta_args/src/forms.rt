@@ -3,7 +3,8 @@
 use crate::options::{
     ANY, ASKED_SYNTAX, AT_ONCE, AUTHOR, CONFLICTS, CONNECT, CommandOption, ELEMENTS, EXPLAIN,
     FIELDS, HEADING, HEX, HTML, IPV4, IPV6, ISBN, JSON, ONLY, ONLY_OF, PATIENCE, QUERY, QUIET,
-    RECORDS as RECORDS_WANTED, SAVE, SUBJECT, SYNTAX, TITLE, TITLES, WITHIN, option,
+    RECORDS as RECORDS_WANTED, SAVE, SHOWN_ONLY, SHOWN_TRACE, SUBJECT, SYNTAX, TITLE, TITLES,
+    TRACE, WITHIN, option,
 };
 use clap::{Arg, ArgAction, Command, value_parser};
 use std::alloc::{AllocError, Global};
@@ -83,9 +84,21 @@ record that it brings.
 Example, the message with which a catalogue ends a session:
   echo 'BF 30 05 9F 81 53 01 00' | zmeta show
 prints
-  close - 0",
+  close - 0
+
+With --trace it reads no digits, but a file that 'zmeta ask --trace' wrote, and
+prints a line for each message that was sent or received, and for what else
+happened: the seconds since the search began, the catalogue, '>' for what went
+to it and '<' for what came from it, and what the message says.
+
+Example, what was said with one of the catalogues:
+  zmeta show --trace dune.trace --only loc
+prints lines as
+  0.084 \"loc\" connected at address 1
+  0.084 \"loc\" > initRequest 00000000 111 110000000000011 1048576 1048576 \"zmeta\"
+  0.253 \"loc\" < initResponse 00000000 111 111000000000000 65536 65536 true -",
     wants: &[],
-    may: &[EXPLAIN],
+    may: &[SHOWN_TRACE, SHOWN_ONLY, EXPLAIN],
 };
 
 const PQF: Form = Form {
@@ -241,7 +254,9 @@ where there is no such question. One search for all: --title, --author,
 --subject, --isbn and --any, or --query, are asked in place of the queries of
 FILE, and --records, --elements and --syntax in place of what its lines say.
 SYNTAX is marc21, unimarc, xml, sutrs, opac, grs1, an object identifier, or -
-for none.
+for none. With --trace the file TRACE gets a line for all that happens, while it
+happens: what was asked, in clear, and each octet that came or went. From it
+'zmeta replay' prints the list again, and 'zmeta show' what was said.
 
 Example, a file with the two lines
   host loc lx2.loc.gov:210
@@ -275,8 +290,33 @@ or, with another question and the same file, by
         HTML,
         HEADING,
         SAVE,
+        TRACE,
         EXPLAIN,
     ],
+};
+
+const REPLAY: Form = Form {
+    name: "replay",
+    about: "Prints again what ask printed, from its trace",
+    example: "TRACE is a file that 'zmeta ask --trace' wrote. No catalogue is asked: what came
+from them is taken from the file. Prints the list, or another view, and the
+lines on standard error that ask printed, with its status; --save makes the file
+that ask would have made. Where the file ends before all was over, prints what
+was known by then, and says 'the trace is cut off' on standard error: status 1.
+Status 3 with the number of the line where a line is none that ask writes.
+
+Example, the list on the day, and its titles a year later:
+  zmeta ask --trace dune.trace catalogues
+  zmeta replay --titles dune.trace",
+    wants: &[Argument {
+        id: "TRACE",
+        help: "A file that ask --trace wrote",
+        has_hyphen: false,
+        is_count: false,
+        is_many: false,
+        is_needed: true,
+    }],
+    may: &[TITLES, FIELDS, JSON, HEX, HTML, HEADING, SAVE, EXPLAIN],
 };
 
 const SERVE: Form = Form {
@@ -363,7 +403,7 @@ prints lines as
     ],
 };
 
-const FORMS: [Form; 8] = [ASK, RUN, LOOP, JOIN, RECORDS, SERVE, SHOW, PQF];
+const FORMS: [Form; 9] = [ASK, REPLAY, RUN, LOOP, JOIN, RECORDS, SERVE, SHOW, PQF];
 
 fn clap_argument(alloc: Global, wanted: &Argument) -> Arg<'static> {
     let argument = Arg::new(alloc, wanted.id)

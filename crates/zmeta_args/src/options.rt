@@ -324,6 +324,39 @@ pub(crate) const ONLY_OF: CommandOption = CommandOption {
     needs: &[],
 };
 
+pub(crate) const TRACE: CommandOption = CommandOption {
+    id: "trace",
+    short: None,
+    help: "Writes all that happens, with its time, in the file TRACE while it happens",
+    value: Some("TRACE"),
+    is_many: false,
+    most_seconds: None,
+    excludes: &[],
+    needs: &[],
+};
+
+pub(crate) const SHOWN_TRACE: CommandOption = CommandOption {
+    id: "trace",
+    short: None,
+    help: "Shows the messages of the file TRACE, which ask --trace wrote, with their times",
+    value: Some("TRACE"),
+    is_many: false,
+    most_seconds: None,
+    excludes: &[],
+    needs: &[],
+};
+
+pub(crate) const SHOWN_ONLY: CommandOption = CommandOption {
+    id: "only",
+    short: None,
+    help: "Shows just what was said with this catalogue; may be given several times",
+    value: Some("NAME"),
+    is_many: true,
+    most_seconds: None,
+    excludes: &[],
+    needs: &["trace"],
+};
+
 pub(crate) const CONFLICTS: CommandOption = CommandOption {
     id: "conflicts",
     short: None,

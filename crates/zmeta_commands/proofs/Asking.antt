@@ -16,7 +16,7 @@ is_chosen : (text : Option (Bor (List ℕ))) (terms : List (List ℕ × List ℕ
 is_chosen None terms = inl refl
 is_chosen (Some text) terms = inr refl
 
-told_as : (s : SearchOptions) (octets : List ℕ) (answer : Result World Fault)
+pub told_as : (s : SearchOptions) (octets : List ℕ) (answer : Result World Fault)
     → SearchedResult (search_of s) octets answer → SearchedResult (search_of s) octets (told_of s answer)
 told_as s octets (Ok world) h = h
 told_as s octets (Err (Line number)) h = h

@@ -5,3 +5,6 @@ pub mod Running
 pub mod Listing
 pub mod Stopping
 pub mod Calling
+pub mod Tracing
+pub mod Planning
+pub mod Replaying

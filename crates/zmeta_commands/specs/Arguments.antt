@@ -7,11 +7,10 @@ use Rattle.clap.specs.declared.error.kind.ErrorKind.TheVariants as kinds
 use Rattle.zmeta_args.specs.declared.arguments.Arguments.{Arguments}
 use Rattle.zmeta_args.specs.declared.arguments.View.{View}
 use Rattle.zmeta_args.specs.declared.arguments.CommandLine.{CommandLine}
-use Rattle.zmeta_args.specs.declared.arguments.Arguments.TheVariants.{Show, Pqf, Join, Records, Run, Ask, Loop, Serve}
+use Rattle.zmeta_args.specs.declared.arguments.Arguments.TheVariants.{Show, Dialogue, Pqf, Join, Records, Run, Ask, Replay, Loop, Serve}
 use Rattle.zmeta_args.specs.Texts.{texts_of, now_of}
 use Rattle.zmeta_args.specs.Arguments.{IsParsed}
 use Rattle.zoom.specs.Limits.{Limits}
-use Rattle.zmeta_commands.specs.Ask.{AfterAsk}
 use Rattle.zmeta_commands.specs.Choice.{AreLimits, manner_of}
 use Rattle.zmeta_offline.specs.Join.{AfterJoin, AfterJoinSaved}
 use Rattle.zmeta_offline.specs.Merged.{AfterMerge}
@@ -22,6 +21,9 @@ use Rattle.zmeta_commands.specs.Run.{AfterRun}
 use Rattle.zmeta_commands.specs.Searches.{search_of}
 use Rattle.zmeta_commands.specs.Serve.{Serves, AfterServe}
 use Rattle.zmeta_offline.specs.Show.{AfterShow}
+use Rattle.zmeta_commands.specs.Dialogue.{AfterDialogue}
+use Rattle.zmeta_commands.specs.Replay.{AfterReplay}
+use Rattle.zmeta_commands.specs.Traced.{AfterTracedAsk}
 use Rattle.zmeta_devices.specs.Faults.{as_done}
 use Rattle.zmeta_devices.specs.Files.{MadeFiles}
 use Rattle.zmeta_devices.specs.Devices.{Device, Outputs, Streams, written, explaining_streams, IsUnchanged, IsBroken, HasGained, HasStopped, AfterTell, AfterEnd}
@@ -43,33 +45,41 @@ AfterJoinCall view octets paths (Some saved) false old new before after status =
     AfterJoinSaved view octets paths saved old new before after status
 
 -- the files made, the streams and the status after the command, with these arguments and no others; `octets` are those
--- of the files at paths, `Stream` are the streams of the system, and `serves` is how it serves a target
+-- of the files at paths, `Stream` are the streams of the system, `serves` is how it serves a target, and `logged` and
+-- `relogged` are the logs before and after
 abbrev pub AfterCall
-    : Type 0 → Serves → (List ℕ → Option (List ℕ)) → Arguments → MadeFiles → MadeFiles → Streams → Streams → Status
-    → Type 0
-AfterCall Stream serves octets Show old new before after status = (new ≡ old) × AfterShow before after status
-AfterCall Stream serves octets (Pqf text) old new before after status =
-    (new ≡ old) × (after.input ≡ before.input) × AfterPqf text.now (written before) (written after) status
-AfterCall Stream serves octets (Join first others saved quiet view) old new before after status =
-    (after.input ≡ before.input) × AfterJoinCall view octets (first.now ∷ texts_of others.items) (now_of saved) quiet old
-    new (written before) (written after) status
-AfterCall Stream serves octets (Records first others only syntax conflicts) old new before after status =
+    : Type 0 → Serves → (List ℕ → Option (List ℕ)) → MadeFiles → MadeFiles → Arguments → MadeFiles → MadeFiles
+    → Streams → Streams → Status → Type 0
+AfterCall Stream serves octets logged relogged Show old new before after status =
+    (new ≡ old) × AfterShow before after status
+AfterCall Stream serves octets logged relogged (Dialogue trace only) old new before after status =
     (new ≡ old) × (after.input ≡ before.input)
+    × AfterDialogue (texts_of only.items) (octets trace.now) trace.now (written before) (written after) status
+AfterCall Stream serves octets logged relogged (Pqf text) old new before after status =
+    (new ≡ old) × (after.input ≡ before.input) × AfterPqf text.now (written before) (written after) status
+AfterCall Stream serves octets logged relogged (Join first others saved quiet view) old new before after status =
+    (after.input ≡ before.input) × AfterJoinCall view octets (first.now ∷ texts_of others.items) (now_of saved) quiet
+    old new (written before) (written after) status
+AfterCall Stream serves octets logged relogged (Records first others only syntax conflicts) old new before after
+    status = (new ≡ old) × (after.input ≡ before.input)
     × AfterRecords (record { only = texts_of only.items; syntax = now_of syntax; conflicts = conflicts }) octets
     (first.now ∷ texts_of others.items) (written before) (written after) status
-AfterCall Stream serves octets (Run world saved search view) old new before after status = (after.input ≡ before.input)
-    × AfterRun (search_of search) view world.now (now_of saved) (octets world.now) old new
+AfterCall Stream serves octets logged relogged (Run world saved search view) old new before after status =
+    (after.input ≡ before.input) × AfterRun (search_of search) view world.now (now_of saved) (octets world.now) old new
     (written before) (written after) status
-AfterCall Stream serves octets (Ask world saved at_once only options search view) old new before after status =
-    (after.input ≡ before.input)
+AfterCall Stream serves octets logged relogged (Ask world saved trace at_once only options search view) old new
+    before after status = (after.input ≡ before.input)
     × ((limits : Limits) × AreLimits options limits
-    × AfterAsk (record { manner = manner_of at_once; only = texts_of only.items; limits = limits })
-    (search_of search) view world.now (now_of saved) (octets world.now) old new
+    × AfterTracedAsk (record { manner = manner_of at_once; only = texts_of only.items; limits = limits })
+    (search_of search) view (now_of trace) logged relogged world.now (now_of saved) (octets world.now) old new
     (written before) (written after) status)
-AfterCall Stream serves octets (Loop world saved search view) old new before after status = (after.input ≡ before.input)
-    × AfterLoop Stream (search_of search) view world.now (now_of saved) (octets world.now) old new
+AfterCall Stream serves octets logged relogged (Replay trace saved view) old new before after status =
+    (after.input ≡ before.input) × AfterReplay view trace.now (now_of saved) (octets trace.now) old new
     (written before) (written after) status
-AfterCall Stream serves octets (Serve address name world count) old new before after status =
+AfterCall Stream serves octets logged relogged (Loop world saved search view) old new before after status =
+    (after.input ≡ before.input) × AfterLoop Stream (search_of search) view world.now (now_of saved) (octets world.now)
+    old new (written before) (written after) status
+AfterCall Stream serves octets logged relogged (Serve address name world count) old new before after status =
     (new ≡ old) × (after.input ≡ before.input) × (after.output ≡ before.output)
     × AfterServe serves (record { address = address.now; name = name.now; world = world.now; count = count })
     (octets world.now) before.errors after.errors status
@@ -117,16 +127,18 @@ IsWrong status = (status ≡ statuses.Arguments) ⊎ (status ≡ statuses.Memory
 -- the files made, the streams and the status after the command that was parsed; or none was run, no file was made, and
 -- the input is unchanged
 abbrev pub AfterParsed
-    : Type 0 → Serves → (List ℕ → Option (List ℕ)) → List (List ℕ) → Result CommandLine Error → MadeFiles → MadeFiles
-    → Streams → Streams → Status → Type 0
-AfterParsed Stream serves octets arguments (Ok line) old new before after status = IsParsed arguments line
-    × AfterCall Stream serves octets line.command old new (explaining_streams line.explain before) after status
-AfterParsed Stream serves octets arguments (Err error) old new before after status =
+    : Type 0 → Serves → (List ℕ → Option (List ℕ)) → MadeFiles → MadeFiles → List (List ℕ) → Result CommandLine Error
+    → MadeFiles → MadeFiles → Streams → Streams → Status → Type 0
+AfterParsed Stream serves octets logged relogged arguments (Ok line) old new before after status =
+    IsParsed arguments line × AfterCall Stream serves octets logged relogged line.command old new
+    (explaining_streams line.explain before) after status
+AfterParsed Stream serves octets logged relogged arguments (Err error) old new before after status =
     (new ≡ old) × (after.input ≡ before.input) × AfterUsage error (written before) (written after) status
 
 -- the files made, the streams and the status after a call of the program with these arguments
 abbrev pub AfterArguments
-    : Type 0 → Serves → (List ℕ → Option (List ℕ)) → List (List ℕ) → MadeFiles → MadeFiles → Streams → Streams → Status
-    → Type 0
-AfterArguments Stream serves octets arguments old new before after status =
-    (asked : Result CommandLine Error) × AfterParsed Stream serves octets arguments asked old new before after status
+    : Type 0 → Serves → (List ℕ → Option (List ℕ)) → MadeFiles → MadeFiles → List (List ℕ) → MadeFiles → MadeFiles
+    → Streams → Streams → Status → Type 0
+AfterArguments Stream serves octets logged relogged arguments old new before after status =
+    (asked : Result CommandLine Error)
+    × AfterParsed Stream serves octets logged relogged arguments asked old new before after status

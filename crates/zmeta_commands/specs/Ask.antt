@@ -7,6 +7,7 @@ use Rattle.zmeta_world.specs.Worlds.{IsRefused}
 use Rattle.zmeta_world.specs.Search.{SearchTexts}
 use Rattle.zmeta_world.specs.NetworkRuns.{IsNetworkRun, IsFirstTargetLine}
 use Rattle.zoom.specs.Asking.{IsAsked}
+use Rattle.zoom.specs.Notice.{Notice}
 use Rattle.zmeta_commands.specs.Choice.{ChoiceTexts, IsChosen}
 use Rattle.zmeta_offline.specs.Names.{AreAllKnown, IsFirstUnknown}
 use Rattle.zmeta_devices.specs.declared.fault.Fault.{Fault}
@@ -41,13 +42,15 @@ ReadNetworkResult search file (Err f) = IsSearchRefusal search f
 
 -- ---- hosts that were asked
 
--- each given name is a question's; each chosen question was put to its host; and the list has the facts
+-- each given name is a question's; each chosen question was put to its host, of which this was noticed; and the list
+-- has the facts
 pub record IsAskedOf (choice : ChoiceTexts) (view : View) (e : NetworkRun) (r : Finished) : Type 0 where
   pub known : AreAllKnown choice.only e.names
   pub chosen : List (Option (List ℕ))
   pub picks : IsChosen choice.only e.names e.addresses chosen
   pub asked : IsAsked e.questions e.settings choice.manner choice.limits chosen r.meta
-  pub listed : IsListed choice.limits r.meta e.names chosen view r
+  pub noticed : List Notice
+  pub listed : IsListed choice.limits noticed r.meta e.names chosen view r
 
 -- the hosts of the file were asked
 abbrev pub AreAsked : ChoiceTexts → SearchTexts → View → List ℕ → Finished → Type 0

@@ -7,6 +7,7 @@ use Rattle.zmeta_args.specs.declared.arguments.View.{View}
 use Rattle.zknow.specs.Known.{HasFailure}
 use Rattle.zknow_stops.specs.declared.stop.Stop.{Stop}
 use Rattle.zoom.specs.Limits.{Limits}
+use Rattle.zoom.specs.Notice.{Notice}
 use Rattle.zmeta_devices.specs.Explained.{stop_line}
 use Rattle.zmeta_commands.specs.Stops.{AreStops}
 use Rattle.zmeta_offline.specs.Saved.{SaveFactsResult}
@@ -30,14 +31,14 @@ use Rattle.zmeta_commands.specs.declared.finished.Finished.{Finished}
 abbrev pub asker : List ℕ
 asker = codes "zmeta"
 
--- the list of the facts of these connections, and why they stopped, with these limits; their questions were put to
--- these addresses, or to targets in memory
-pub record IsListed (limits : Limits) (meta : MetaLinks) (names : List (List ℕ)) (addresses : List (Option (List ℕ)))
-    (view : View) (r : Finished) : Type 0 where
+-- the list of the facts of these connections, and why they stopped, with these limits, and by what was noticed of their
+-- hosts; their questions were put to these addresses, or to targets in memory
+pub record IsListed (limits : Limits) (noticed : List Notice) (meta : MetaLinks) (names : List (List ℕ))
+    (addresses : List (Option (List ℕ))) (view : View) (r : Finished) : Type 0 where
   pub of : r.meta ≡ meta
   pub at : r.addresses.items ≡ addresses
   pub named : r.names ≡ names
-  pub stopped : AreStops limits meta r.stops.items
+  pub stopped : AreStops limits noticed meta r.stops.items
   pub list : r.list.items ≡ printed names view r.stops.items meta.pool.knowledge
 
 -- each connection has a name, and there are fewer than 2 ^ 32
@@ -193,6 +194,21 @@ AfterFinished r saved old new before after status = (result : Result Status Faul
     × AfterEnd result between after.errors status
 
 -- ---- a command that asks
+
+-- a fault of the file at a path: it cannot be read, or no memory was found
+abbrev pub IsOfFile : List ℕ → Fault → Type 0
+IsOfFile path (Read failed) = failed.now ≡ path
+IsOfFile path Memory = Unit {0}
+IsOfFile path _ = ⊥
+
+-- a fault of what a world file says, or of what is put to its questions
+abbrev pub IsOfTexts : Fault → Type 0
+IsOfTexts (Line number) = Unit {0}
+IsOfTexts (Query kind at text) = Unit {0}
+IsOfTexts (Wanted text) = Unit {0}
+IsOfTexts (Syntax text) = Unit {0}
+IsOfTexts Memory = Unit {0}
+IsOfTexts _ = ⊥
 
 -- a fault of the world file at a path: it cannot be read, a line is refused, or no memory was found
 abbrev pub IsOfWorld : List ℕ → Fault → Type 0

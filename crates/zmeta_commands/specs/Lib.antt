@@ -1,10 +1,13 @@
 pub mod Arguments
 pub mod Ask
 pub mod Choice
+pub mod Dialogue
 pub mod Finished
 pub mod Loop
+pub mod Replay
 pub mod Run
 pub mod Searches
 pub mod Serve
 pub mod Stops
+pub mod Traced
 pub mod Worlds

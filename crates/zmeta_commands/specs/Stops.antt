@@ -79,8 +79,8 @@ pub data AreStopsOf (limits : Limits) (noticed : List Notice) (meta : MetaLinks)
       → IsStopOf limits (notice_at noticed (length stops)) state stop
       → AreStopsOf limits noticed meta (stops ++ stop ∷ [])
 
--- why each connection stopped, by what was noticed of its host
-pub record AreStops (limits : Limits) (meta : MetaLinks) (stops : List (Option Stop)) : Type 0 where
-  pub noticed : List Notice
+-- why each connection stopped, with these limits, and by what was noticed of its host
+pub record AreStops (limits : Limits) (noticed : List Notice) (meta : MetaLinks) (stops : List (Option Stop))
+    : Type 0 where
   pub size : length stops ≡ length meta.pool.connections
   pub each : AreStopsOf limits noticed meta stops

@@ -7,9 +7,12 @@ use Rattle.zmeta_devices.specs.Faults.{of_options}
 use Rattle.zmeta_world.specs.declared.world.World.{World}
 use Rattle.zmeta_world.specs.Worlds.{IsWorld, IsRefused}
 use Rattle.zmeta_world.specs.Search.{SearchTexts, IsWorldWith, IsSearchFault}
+use Rattle.zmeta_world.specs.declared.network.NetworkRun.{NetworkRun}
+use Rattle.zmeta_world.specs.NetworkRuns.{IsNetworkRun, IsFirstTargetLine}
 use Rattle.zmeta_world.specs.declared.search.SearchError.TheVariants as searches
 use Rattle.zmeta_devices.specs.declared.fault.Fault.{Fault}
 use Rattle.zmeta_devices.specs.declared.fault.Fault.TheVariants.{Read, Line, Query, Wanted, Syntax, Memory}
+use Rattle.zmeta_commands.specs.Finished.{asker}
 
 -- the world of a file, or the line that is refused
 abbrev pub WorldResult : List ℕ → Result World Fault → Type 0
@@ -47,3 +50,12 @@ SearchedResult search file (Err f) = IsSearchRefusal search f
 abbrev pub told_of : SearchOptions → Result World Fault → Result World Fault
 told_of s (Ok world) = Ok world
 told_of s (Err f) = Err (of_options s f)
+
+-- ---- a network plan
+
+-- the network plan of a world, or the line of the first question that goes to a target in memory
+abbrev pub PlanResult : World → Result NetworkRun Fault → Type 0
+PlanResult world (Ok e) = IsNetworkRun asker world e
+PlanResult world (Err (Line number)) = IsFirstTargetLine world.hosts world.questions number
+PlanResult world (Err Memory) = Unit {0}
+PlanResult world (Err _) = ⊥

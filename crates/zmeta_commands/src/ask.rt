@@ -2,18 +2,22 @@
 
 ghost use Rattle.std.specs.Prelude.{◌≡◌, ◌<◌, ◌^◌, length, IfOk, IfErr, IfSome};
 ghost use Rattle.std.specs.Option.{option_map};
+ghost use Rattle.zmeta_world.specs.Search.{search_texts};
 ghost use Rattle.zoom.specs.Askable.{AreAskable, AreFit};
-ghost use Rattle.zoom.specs.Asking.{IsAsked};
+ghost use Rattle.zoom.specs.Asking.{IsAsked, IsTracedAsk};
 ghost use Rattle.zmeta_devices.specs.Devices.{outputs};
 ghost use Rattle.zmeta_commands.specs.Finished.{HasNames, IsOfSearchedWorld};
 ghost use Rattle.zmeta_commands.specs.Choice.{choice_texts};
 ghost use Rattle.zmeta_commands.specs.Searches.{search_of};
-ghost use Rattle.zmeta_commands.specs.Ask.{ReadNetworkResult, CanBeAsked, AskNetworkResult, AskFileResult, IsOfAsking, AfterAsk};
+ghost use Rattle.zmeta_commands.specs.Ask.{CanBeAsked, AskNetworkResult, AskFileResult, IsOfAsking};
+ghost use Rattle.zmeta_commands.specs.Traced.{PlannedResult, IsTracedNetwork, IsTracedFile, AfterTracedAsk, finished_of};
 
 use crate::choice::{Choice, addresses_of};
-use crate::finished::{Finished, NAME, Paths, conclude};
+use crate::finished::{Finished, Paths, conclude};
 use crate::progress::Progress;
-use crate::worlds::world_at;
+use crate::searches::copy_search;
+use crate::traced::{begin_trace, end_trace};
+use crate::worlds::{octets_at, plan, searched_by};
 use bytes::Bytes;
 use std::alloc::{AllocError, Global};
 use std::io::Write;
@@ -24,7 +28,20 @@ use zmeta_devices::fault::{Fault, Status};
 use zmeta_devices::files::Folder;
 use zmeta_devices::output::Output;
 use zmeta_world::network::NetworkRun;
-use zoom::{Asked, Limits, Manner, MetaSettings, Question, ask};
+use zmeta_world::search::Search;
+use zoom::{Asked, Limits, Manner, MetaSettings, Question, Tracer, ask};
+
+/// The octets of a world file, and the network run of its world.
+struct Planned {
+    world: Bytes,
+    network: NetworkRun,
+}
+
+/// Finished connections, and the trace of how they were asked, if there is one.
+struct Answered<T> {
+    finished: Finished,
+    trace: Option<Tracer<T>>,
+}
 
 /// Puts each chosen question of a world file to its host over TCP, and prints what is known: as the list, the view
 /// for readers or lines of JSON, as `view` says. The hosts are asked at once or one after the other, as `choice` says.
@@ -34,6 +51,10 @@ use zoom::{Asked, Limits, Manner, MetaSettings, Question, ask};
 /// there, the saved file of the facts, and returns `Done` or `Failed` only if it holds them all. Makes no other file.
 /// If nothing is printed or not all is saved, writes the reason on `errors`.
 ///
+/// If `trace` is a path, begins a log there once the world file is read, and writes in it, while it asks, what was
+/// given, and each report and action with its time. If that fails, it asks all the same, writes the reason on `errors`
+/// in the end, and returns `Refused`, unless it returns `Memory`.
+///
 /// Returns `Refused` if a file or a stream failed, `errors` too. Else returns `Failed` if a search, an association or a
 /// connection failed, a host closed a connection first, or a chosen question was not asked. While it asks, it writes
 /// its progress on `screen`, if there is one.
@@ -41,6 +62,7 @@ pub fn ask_named<'a, 'o: 'a, S: Folder + Net + Clock, W: Write, E: Write, P: Wri
     alloc: Global,
     system: &mut S,
     paths: Paths<'a>,
+    trace: Option<&'a str>,
     choice: Choice<'a, '_>,
     search: &SearchOptions<'a>,
     view: View<'_>,
@@ -48,64 +70,107 @@ pub fn ask_named<'a, 'o: 'a, S: Folder + Net + Clock, W: Write, E: Write, P: Wri
     output: &mut Output<'o, W>,
     errors: &mut Output<'_, E>,
 ) -> Status
-    ensures { AfterAsk (choice_texts choice.entry) (search_of search.now) view.entry paths.entry.world.now
+    ensures { AfterTracedAsk (choice_texts choice.entry) (search_of search.now) view.entry
+        (option_map (λ path. path.now) trace.entry) (S.logged system.old) (S.logged system.new) paths.entry.world.now
         (option_map (λ path. path.now) paths.entry.saved) (S.octets system.old paths.entry.world.now)
         (S.made system.old) (S.made system.new) (outputs W.contents E.contents output.old errors.old)
         (outputs W.contents E.contents output.new errors.new) result }
 {
-    let asked = ask_file(alloc, system, paths.world, choice, search, view, screen);
-    conclude(alloc, system, asked, paths.saved, output, errors)
+    match ask_file(
+        alloc,
+        system,
+        paths.world,
+        trace,
+        choice,
+        search,
+        view,
+        screen,
+    ) {
+        Ok(answered) => {
+            let Answered {
+                finished,
+                trace: left,
+            } = answered;
+            let status = conclude(alloc, system, Ok(finished), paths.saved, output, errors);
+            end_trace(system, trace, left, status, errors)
+        }
+        Err(fault) => conclude(alloc, system, Err(fault), paths.saved, output, errors),
+    }
 }
 
 /// Asks the hosts of the file at a path.
+#[tactic(auto, using(crate::proofs::Planning::unasked_file, crate::proofs::Planning::of_asking, crate::proofs::Tracing::traced_file))]
 fn ask_file<'a, S: Folder + Net + Clock, P: Write + Drop>(
     alloc: Global,
     system: &S,
     path: &'a str,
+    trace: Option<&'a str>,
     choice: Choice<'a, '_>,
     search: &SearchOptions<'a>,
     view: View<'_>,
     screen: Option<P>,
-) -> Result<Finished, Fault<'a>>
+) -> Result<Answered<S::Log>, Fault<'a>>
     ensures asked { IfSome (S.octets system.now path.entry.now)
-        (λ octets. AskFileResult (choice_texts choice.entry) (search_of search.now) view.entry octets result) }
-    ensures sound { IfOk result HasNames }
+        (λ octets. AskFileResult (choice_texts choice.entry) (search_of search.now) view.entry octets
+        (finished_of result)) }
+    ensures traced { IfOk result (λ answered. IsTracedFile S.Log.contents (S.logged system.now)
+        (choice_texts choice.entry) (search_of search.now) (S.octets system.now path.entry.now) answered.finished
+        answered.trace) }
+    ensures sound { IfOk result (λ answered. HasNames answered.finished) }
     ensures path { IfErr result (IsOfAsking path.entry.now) }
 {
-    let network = read_network(alloc, system, path, search)?;
-    ask_network(alloc, system, network, choice, view, screen)
+    let copy = copy_search(alloc, search)?;
+    let planned = read_network(alloc, system, path, search, &copy.texts())?;
+    ask_network(
+        alloc,
+        system,
+        planned,
+        trace,
+        choice,
+        &copy.texts(),
+        view,
+        screen,
+    )
 }
 
 /// Reads the file at a path, puts the search to its questions, and plans a network run of its world.
+#[tactic(auto, using(crate::proofs::Planning::unread, crate::proofs::Planning::refused, crate::proofs::Planning::unplanned, crate::proofs::Planning::of_file, crate::proofs::Planning::of_texts, crate::proofs::Planning::of_plan))]
 fn read_network<'a, F: Folder>(
     alloc: Global,
     files: &F,
     path: &'a str,
     search: &SearchOptions<'a>,
-) -> Result<NetworkRun, Fault<'a>>
-    ensures network { IfSome (F.octets files.now path.entry.now)
-        (λ octets. ReadNetworkResult (search_of search.now) octets result) }
-    ensures fit { IfOk result CanBeAsked }
+    texts: &Search<'_>,
+) -> Result<Planned, Fault<'a>>
+    requires { search_texts texts.now ≡ search_of search.now }
+    ensures network { PlannedResult (search_of search.now) (F.octets files.now path.entry.now) result }
+    ensures fit { IfOk result (λ planned. CanBeAsked planned.network) }
     ensures path { IfErr result (IsOfSearchedWorld path.entry.now) }
 {
-    let world = world_at(alloc, files, path, search)?;
-    let name = Bytes::copy_from_slice(alloc, NAME)?;
-    Ok(world.network(alloc, name)?)
+    let world = octets_at(alloc, files, path)?;
+    let searched = searched_by(alloc, world.as_slice(), search, texts)?;
+    let network = plan(alloc, searched)?;
+    Ok(Planned { world, network })
 }
 
 /// Asks the hosts of the chosen questions, and makes the list.
-fn ask_network<'a, N: Net + Clock, P: Write + Drop>(
+fn ask_network<'a, S: Folder + Net + Clock, P: Write + Drop>(
     alloc: Global,
-    net: &N,
-    network: NetworkRun,
+    system: &S,
+    planned: Planned,
+    trace: Option<&str>,
     choice: Choice<'a, '_>,
+    texts: &Search<'_>,
     view: View<'_>,
     screen: Option<P>,
-) -> Result<Finished, Fault<'a>>
-    requires { CanBeAsked network }
-    ensures asked { AskNetworkResult (choice_texts choice.entry) view.entry network result }
-    ensures sound { IfOk result HasNames }
+) -> Result<Answered<S::Log>, Fault<'a>>
+    requires { CanBeAsked planned.network }
+    ensures asked { AskNetworkResult (choice_texts choice.entry) view.entry planned.network (finished_of result) }
+    ensures traced { IfOk result (λ answered. IsTracedNetwork S.Log.contents (S.logged system.now)
+        (choice_texts choice.entry) (search_texts texts.now) planned answered.finished answered.trace) }
+    ensures sound { IfOk result (λ answered. HasNames answered.finished) }
 {
+    let Planned { world, network } = planned;
     let NetworkRun {
         questions,
         settings,
@@ -113,30 +178,42 @@ fn ask_network<'a, N: Net + Clock, P: Write + Drop>(
         names,
     } = network;
     let chosen = addresses_of(alloc, choice.only, names.as_slice(), addresses.as_slice())?;
-    let progress = Progress::new(alloc, net, screen, names.as_slice(), chosen.as_slice());
+    let begun = begin_trace(alloc, system, trace, world, texts, choice.only)?;
+    let progress = Progress::new(alloc, system, screen, names.as_slice(), chosen.as_slice());
     let asked = ask_watched(
         alloc,
-        net,
+        system,
         questions.into_vec(),
         settings,
         chosen.as_slice(),
         choice.manner,
         choice.limits,
         progress,
+        begun,
     )?;
-    Ok(Finished::new(
+    let Asked {
+        meta,
+        notices,
+        trace: left,
+    } = asked;
+    let limits = choice.limits;
+    let finished = Finished::new(
         alloc,
-        asked.meta,
+        meta,
         names,
         chosen,
-        asked.notices.as_slice(),
-        &choice.limits,
+        notices.as_slice(),
+        &limits,
         view,
-    )?)
+    )?;
+    Ok(Answered {
+        finished,
+        trace: left,
+    })
 }
 
 /// Asks hosts, and shows the progress meanwhile.
-fn ask_watched<N: Net + Clock, C: Clock, P: Write + Drop>(
+fn ask_watched<N: Net + Clock, C: Clock, P: Write + Drop, T: Write + Drop>(
     alloc: Global,
     net: &N,
     questions: Vec<Question>,
@@ -145,12 +222,15 @@ fn ask_watched<N: Net + Clock, C: Clock, P: Write + Drop>(
     manner: Manner,
     limits: Limits,
     mut progress: Progress<'_, C, P>,
-) -> Result<Asked, AllocError>
+    trace: Option<Tracer<T>>,
+) -> Result<Asked<T>, AllocError>
     requires some { length questions.items < 2 ^ 32 }
     requires askable { AreAskable questions.items }
     requires fit { AreFit settings }
     requires equal { length addresses.now ≡ length questions.items }
-    ensures { IfOk result (λ asked. IsAsked questions.items settings manner limits addresses.now asked.meta) }
+    ensures asked { IfOk result (λ asked. IsAsked questions.items settings manner limits addresses.now asked.meta) }
+    ensures traced { IfOk result (λ asked. IsTracedAsk T.contents questions.items settings manner limits addresses.now
+        trace asked.meta asked.trace) }
 {
     let asked = ask(
         alloc,
@@ -161,6 +241,7 @@ fn ask_watched<N: Net + Clock, C: Clock, P: Write + Drop>(
         manner,
         limits,
         &mut progress,
+        trace,
     )?;
     progress.wipe();
     Ok(asked)

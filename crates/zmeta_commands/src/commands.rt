@@ -6,9 +6,11 @@ ghost use Rattle.zmeta_commands.specs.Serve.{ServedAt};
 
 use crate::ask::ask_named;
 use crate::choice::{Choice, limits_of, manner_of};
+use crate::dialogue::dialogue_named;
 use crate::doors::Doors;
 use crate::finished::Paths;
 use crate::looped::loop_named;
+use crate::replay::{ReplayPaths, replay_named};
 use crate::run::run_named;
 use crate::serve::{Service, serve_named};
 use crate::usage::print_usage;
@@ -47,7 +49,8 @@ pub fn run<'a, S: Folder + Doors + Net + Clock, R: Read, W: Write, E: Write, P: 
 ) -> Status
     ensures done { IfOk arguments.entry (λ arguments. AfterArguments
         S.Stream (ServedAt S S.Client S.IsAt (S.IsShut system.old)) (S.octets system.old)
-        (map string_bytes arguments.now) (S.made system.old) (S.made system.new)
+        (S.logged system.old) (S.logged system.new) (map string_bytes arguments.now)
+        (S.made system.old) (S.made system.new)
         (streams R.remaining W.contents E.contents input.old output.old errors.old)
         (streams R.remaining W.contents E.contents input.new output.new errors.new) result) }
     ensures wrong { IfErr arguments.entry (λ _. IsWrong result) }
@@ -74,7 +77,8 @@ fn run_arguments<'a, S: Folder + Doors + Net + Clock, R: Read, W: Write, E: Writ
     screen: Option<P>,
 ) -> Status
     ensures { AfterArguments S.Stream (ServedAt S S.Client S.IsAt (S.IsShut system.old)) (S.octets system.old)
-        (map string_bytes arguments.now) (S.made system.old) (S.made system.new)
+        (S.logged system.old) (S.logged system.new) (map string_bytes arguments.now)
+        (S.made system.old) (S.made system.new)
         (streams R.remaining W.contents E.contents input.old output.old errors.old)
         (streams R.remaining W.contents E.contents input.new output.new errors.new) result }
 {
@@ -94,7 +98,7 @@ fn run_parsed<'a, S: Folder + Doors + Net + Clock, R: Read, W: Write, E: Write, 
 ) -> Status
     ensures { MatchResult asked.entry
         (λ line. AfterCall S.Stream (ServedAt S S.Client S.IsAt (S.IsShut system.old)) (S.octets system.old)
-        line.command (S.made system.old) (S.made system.new)
+        (S.logged system.old) (S.logged system.new) line.command (S.made system.old) (S.made system.new)
         (explaining_streams line.explain (streams R.remaining W.contents E.contents input.old output.old errors.old))
         (streams R.remaining W.contents E.contents input.new output.new errors.new) result)
         (λ error. (S.made system.new ≡ S.made system.old) × (input.new ≡ input.old)
@@ -140,13 +144,16 @@ fn call<'a, S: Folder + Doors + Net + Clock, R: Read, W: Write, E: Write, P: Wri
     errors: &mut Output<'a, E>,
     screen: Option<P>,
 ) -> Status
-    ensures { AfterCall S.Stream (ServedAt S S.Client S.IsAt (S.IsShut system.old)) (S.octets system.old) asked.entry
-        (S.made system.old) (S.made system.new)
+    ensures { AfterCall S.Stream (ServedAt S S.Client S.IsAt (S.IsShut system.old)) (S.octets system.old)
+        (S.logged system.old) (S.logged system.new) asked.entry (S.made system.old) (S.made system.new)
         (streams R.remaining W.contents E.contents input.old output.old errors.old)
         (streams R.remaining W.contents E.contents input.new output.new errors.new) result }
 {
     match asked {
         Arguments::Show => show(alloc, input, output, errors),
+        Arguments::Dialogue { trace, only } => {
+            dialogue_named(alloc, system, trace, only.as_slice(), output, errors)
+        }
         Arguments::Pqf { text } => pqf(alloc, text, output, errors),
         Arguments::Join {
             first,
@@ -194,9 +201,18 @@ fn call<'a, S: Folder + Doors + Net + Clock, R: Read, W: Write, E: Write, P: Wri
             };
             records_named(alloc, system, saved, wanted, output, errors)
         }
+        Arguments::Replay { trace, saved, view } => replay_named(
+            alloc,
+            system,
+            ReplayPaths { trace, saved },
+            view,
+            output,
+            errors,
+        ),
         Arguments::Ask {
             world,
             saved,
+            trace,
             at_once,
             only,
             limits,
@@ -210,7 +226,7 @@ fn call<'a, S: Folder + Doors + Net + Clock, R: Read, W: Write, E: Write, P: Wri
             };
             let paths = Paths { world, saved };
             ask_named(
-                alloc, system, paths, choice, &search, view, screen, output, errors,
+                alloc, system, paths, trace, choice, &search, view, screen, output, errors,
             )
         }
         Arguments::Loop {

@@ -1,6 +1,6 @@
 //! The end of a command that asks: prints the list, reports failed connections, and saves the facts.
 
-ghost use Rattle.std.specs.Prelude.{◌<◌, ◌^◌, length, IfOk};
+ghost use Rattle.std.specs.Prelude.{◌≡◌, ◌<◌, ◌^◌, length, IfOk};
 ghost use Rattle.std.specs.Option.{option_map};
 ghost use Rattle.zmeta_devices.specs.Devices.{outputs};
 ghost use Rattle.zmeta_commands.specs.Finished.{HasNames, IsListed, PutFinishedResult, SaveResult, FinishResult, AfterAsked};
@@ -62,7 +62,7 @@ impl Finished {
         view: View<'_>,
     ) -> Result<Finished, AllocError>
         requires { length meta.pool.connections < 2 ^ 32 }
-        ensures { IfOk result (IsListed limits.now meta names addresses.items view.entry) }
+        ensures { IfOk result (IsListed limits.now noticed.now meta names addresses.items view.entry) }
     {
         let stops = stops_of(alloc, &meta, noticed, limits)?;
         let mut list = Vec::new(alloc);
@@ -113,8 +113,9 @@ fn save_finished<'a, F: Folder>(
     path: Option<&'a str>,
     finished: &Finished,
 ) -> Result<(), Fault<'a>>
-    ensures { SaveResult finished.now (option_map (λ path. path.now) path.entry)
+    ensures saved { SaveResult finished.now (option_map (λ path. path.now) path.entry)
         (F.made files.old) (F.made files.new) result }
+    ensures logged { F.logged files.new ≡ F.logged files.old }
 {
     match path {
         None => Ok(()),
@@ -142,9 +143,10 @@ fn finish<'a, 'o: 'a, F: Folder, W: Write, E: Write>(
     errors: &mut Output<'_, E>,
 ) -> Result<Status, Fault<'a>>
     requires { HasNames finished.now }
-    ensures { FinishResult finished.now (option_map (λ path. path.now) saved.entry)
+    ensures finished { FinishResult finished.now (option_map (λ path. path.now) saved.entry)
         (F.made files.old) (F.made files.new) (outputs W.contents E.contents output.old errors.old)
         (outputs W.contents E.contents output.new errors.new) result }
+    ensures logged { F.logged files.new ≡ F.logged files.old }
 {
     let printed = put_finished(alloc, finished, output, errors);
     match save_finished(alloc, files, saved, finished) {
@@ -173,9 +175,10 @@ pub(crate) fn conclude<'a, 'o: 'a, F: Folder, W: Write, E: Write>(
     errors: &mut Output<'_, E>,
 ) -> Status
     requires { IfOk asked HasNames }
-    ensures { AfterAsked asked.entry (option_map (λ path. path.now) saved.entry)
+    ensures asked { AfterAsked asked.entry (option_map (λ path. path.now) saved.entry)
         (F.made files.old) (F.made files.new) (outputs W.contents E.contents output.old errors.old)
         (outputs W.contents E.contents output.new errors.new) result }
+    ensures logged { F.logged files.new ≡ F.logged files.old }
 {
     match asked {
         Ok(finished) => {

@@ -4,15 +4,18 @@
 pub mod ask;
 pub mod choice;
 pub mod commands;
+mod dialogue;
 pub mod doors;
 pub mod failures;
 pub mod finished;
 pub mod looped;
 mod progress;
+pub mod replay;
 pub mod run;
 mod searches;
 pub mod serve;
 mod stops;
+mod traced;
 mod trouble;
 mod usage;
 mod worlds;

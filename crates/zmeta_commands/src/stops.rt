@@ -92,7 +92,7 @@ pub(crate) fn stops_of(
     limits: &Limits,
 ) -> Result<Vec<Option<Stop>>, AllocError>
     requires { length meta.now.pool.connections < 2 ^ 32 }
-    ensures { IfOk result (λ stops. AreStops limits.now meta.now stops.items) }
+    ensures { IfOk result (λ stops. AreStops limits.now noticed.now meta.now stops.items) }
 {
     let mut stops = Vec::new(alloc);
     for c in 0..meta.connections() {

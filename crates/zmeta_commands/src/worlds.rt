@@ -1,19 +1,22 @@
 //! Reads world files for the commands.
 
-ghost use Rattle.std.specs.Prelude.{◌≡◌, IfOk, IfErr, IfSome};
+ghost use Rattle.std.specs.Prelude.{◌≡◌, ◌<◌, ◌^◌, length, IfOk, IfErr, IfSome};
 ghost use Rattle.zmeta_world.specs.InMemoryRuns.{IsFit};
-ghost use Rattle.zmeta_commands.specs.Finished.{IsOfWorld, IsOfSearchedWorld};
+ghost use Rattle.zmeta_commands.specs.Finished.{IsOfFile, IsOfTexts, IsOfWorld, IsOfSearchedWorld};
 ghost use Rattle.zmeta_world.specs.Search.{search_texts};
 ghost use Rattle.zmeta_commands.specs.Searches.{search_of};
-ghost use Rattle.zmeta_commands.specs.Worlds.{WorldResult, SearchedResult, told_of};
+ghost use Rattle.zmeta_commands.specs.Worlds.{WorldResult, SearchedResult, PlanResult, told_of};
 
+use crate::finished::NAME;
 use crate::searches::copy_search;
+use bytes::Bytes;
 use std::alloc::Global;
 use std::io::Read;
 use zmeta_args::SearchOptions;
 use zmeta_devices::fault::Fault;
 use zmeta_devices::files::{Folder, file_at};
 use zmeta_devices::input::Input;
+use zmeta_world::network::NetworkRun;
 use zmeta_world::search::Search;
 use zmeta_world::world::{World, read_world};
 
@@ -62,6 +65,64 @@ pub(crate) fn world_at<'a, F: Folder>(
     let mut file = file_at(files, path);
     let answer = searched_world(alloc, &mut file, &copy.texts());
     of_options(search, answer)
+}
+
+/// Reads the octets of the file at a path: fewer than 2^32.
+pub(crate) fn octets_at<'a, F: Folder>(
+    alloc: Global,
+    files: &F,
+    path: &'a str,
+) -> Result<Bytes, Fault<'a>>
+    ensures octets { IfOk result (λ octets. IfSome (F.octets files.now path.entry.now) (λ known. octets ≡ known)) }
+    ensures short { IfOk result (λ octets. length octets < 2 ^ 32) }
+    ensures fault { IfErr result (IsOfFile path.entry.now) }
+{
+    let octets = file_at(files, path).read_all(alloc)?;
+    match Bytes::from_vec(octets) {
+        Ok(octets) => Ok(octets),
+        Err(_) => Err(Fault::Memory),
+    }
+}
+
+/// Reads the world of these octets, fewer than 2^32, and puts a search to every question.
+pub(crate) fn searched_in<'a>(
+    alloc: Global,
+    octets: &[u8],
+    search: &Search<'_>,
+) -> Result<World, Fault<'a>>
+    requires { length octets.now < 2 ^ 32 }
+    ensures says { SearchedResult (search_texts search.now) octets.now result }
+    ensures fit { IfOk result IsFit }
+    ensures fault { IfErr result IsOfTexts }
+{
+    let world = read_world(alloc, octets)?;
+    Ok(world.with_search(alloc, search)?)
+}
+
+/// Does so for the search of the options, which has these texts.
+pub(crate) fn searched_by<'a>(
+    alloc: Global,
+    octets: &[u8],
+    search: &SearchOptions<'a>,
+    texts: &Search<'_>,
+) -> Result<World, Fault<'a>>
+    requires short { length octets.now < 2 ^ 32 }
+    requires same { search_texts texts.now ≡ search_of search.now }
+    ensures says { SearchedResult (search_of search.now) octets.now result }
+    ensures fit { IfOk result IsFit }
+    ensures fault { IfErr result IsOfTexts }
+{
+    let answer = searched_in(alloc, octets, texts);
+    of_options(search, answer)
+}
+
+/// Plans a network run of a world.
+pub(crate) fn plan<'a>(alloc: Global, world: World) -> Result<NetworkRun, Fault<'a>>
+    requires { IsFit world }
+    ensures { PlanResult world result }
+{
+    let name = Bytes::copy_from_slice(alloc, NAME)?;
+    Ok(world.network(alloc, name)?)
 }
 
 /// Returns the result with the text of the option that its fault speaks of.

@@ -45,7 +45,7 @@ abbrev pub MakeResult : {E : Type 0} → MadeFiles → MadeFiles → List ℕ �
 MakeResult old new path octets (Ok u) = MakesFile old new (record { path = path; octets = octets })
 MakeResult old new path octets (Err error) = MakesInPart old new path octets
 
--- what a new draft holds: nothing; that is known where the files made are
+-- what a new draft, or a new log, holds: nothing; that is known where the files made, or the logs, are
 abbrev pub IsDraft : MadeFiles → Option (List ℕ) → Type 0
 IsDraft None contents = IfSome contents (λ octets. octets ≡ [])
 IsDraft (Some files) contents = contents ≡ Some []

@@ -1,5 +1,5 @@
 //! Files by their paths. A file opens at its first read, so a file that cannot be opened is a file that cannot be
-//! read. A file is made by one call, with all its octets, or from a draft.
+//! read. A file is made by one call, with all its octets, or from a draft. A log is written while things happen.
 ghost use Rattle.std.specs.Prelude.{◌≡◌, ℕ, List, Option, None, false, IfOk};
 ghost use Rattle.zmeta_devices.specs.Files.{opened_left, MadeFile, MakeResult, IsDraft, KeepResult};
 
@@ -16,11 +16,17 @@ pub trait Folder {
     /// What is written before a file is made of it, for contents that are larger than memory.
     type Draft: Write + Drop;
 
+    /// What is written while things happen: the file is there meanwhile, and what was written to it.
+    type Log: Write + Drop;
+
     /// The octets of the file at a path, if they are known.
     ghost octets: { Self → List ℕ → Option (List ℕ) } = { λ _ _. None };
 
     /// The files made so far, oldest first, if they are known.
     ghost made: { Self → Option (List MadeFile) } = { λ _. None };
+
+    /// The logs ended so far, oldest first, if they are known. They are not among the files made.
+    ghost logged: { Self → Option (List MadeFile) } = { λ _. None };
 
     /// Opens the file at a path for reading, at its first octet.
     fn open(&self, path: &str) -> io::Result<Self::File>
@@ -29,7 +35,8 @@ pub trait Folder {
     /// Makes a file at a path with these contents. A file that is there already is replaced. If that fails, no file is
     /// made, or one that holds a front of the contents.
     fn make(&mut self, path: &str, contents: &[u8]) -> io::Result<()>
-        ensures { MakeResult (made self.old) (made self.new) path.now contents.now result };
+        ensures made { MakeResult (made self.old) (made self.new) path.now contents.now result }
+        ensures logged { logged self.new ≡ logged self.old };
 
     /// Begins a draft of a file at a path. Until it is kept, no file is made.
     fn draft(&self, path: &str) -> io::Result<Self::Draft>
@@ -38,10 +45,22 @@ pub trait Folder {
     /// Makes a file at a path, with what was written to the draft. A file that is there already is replaced. If that
     /// fails, no file is made, or one that holds a front of it.
     fn keep(&mut self, path: &str, draft: Self::Draft) -> io::Result<()>
-        ensures { KeepResult (made self.old) (made self.new) path.now (Self.Draft.contents draft) result };
+        ensures made { KeepResult (made self.old) (made self.new) path.now (Self.Draft.contents draft) result }
+        ensures logged { logged self.new ≡ logged self.old };
 
     /// Gives a draft up. No file is made.
     fn discard(&self, draft: Self::Draft);
+
+    /// Begins a log: a file at a path, which is empty, and takes what is written to the log at once. A file that is
+    /// there already is emptied. If the program is broken off, a front of what was written stays.
+    fn log(&self, path: &str) -> io::Result<Self::Log>
+        ensures { IfOk result (λ log. IsDraft (logged self.now) (Self.Log.contents log)) };
+
+    /// Ends the log that was begun at a path: the file there holds all that was written to it. If that fails, it holds
+    /// a front of that, or is lost.
+    fn close(&mut self, path: &str, log: Self::Log) -> io::Result<()>
+        ensures logged { KeepResult (logged self.old) (logged self.new) path.now (Self.Log.contents log) result }
+        ensures made { made self.new ≡ made self.old };
 }
 
 /// A draft on the system's disk.
@@ -66,6 +85,8 @@ impl Folder for HostRuntime {
     type File = File;
 
     type Draft = FileDraft;
+
+    type Log = File;
 
     fn open(&self, path: &str) -> io::Result<File> {
         File::open(self, path)
@@ -111,6 +132,14 @@ impl Folder for HostRuntime {
         if let Some(beside) = &draft.beside {
             let _ = fs::remove_file(self, beside.as_str());
         }
+    }
+
+    fn log(&self, path: &str) -> io::Result<File> {
+        File::create(self, path)
+    }
+
+    fn close(&mut self, _path: &str, mut log: File) -> io::Result<()> {
+        log.flush()
     }
 }
 

@@ -1,5 +1,5 @@
 //! Facts that are saved in a file.
-ghost use Rattle.std.specs.Prelude.{Ok, Err, MatchResult};
+ghost use Rattle.std.specs.Prelude.{◌≡◌, Ok, Err, MatchResult};
 ghost use Rattle.zmeta_offline.specs.Saved.{SavedOctetsResult, MakeFileResult, SaveFactsResult};
 
 use std::alloc::Global;
@@ -17,7 +17,8 @@ pub fn save_facts<'a, F: Folder>(
     knowledge: &Knowledge,
     names: &Names,
 ) -> Result<(), Fault<'a>>
-    ensures { SaveFactsResult names.now knowledge.now path.entry.now (F.made files.old) (F.made files.new) result }
+    ensures saved { SaveFactsResult names.now knowledge.now path.entry.now (F.made files.old) (F.made files.new) result }
+    ensures logged { F.logged files.new ≡ F.logged files.old }
 {
     let octets = saved_octets(alloc, path, knowledge, names)?;
     make_file(files, path, octets.as_slice())
@@ -46,7 +47,8 @@ fn saved_octets<'a>(
 ///
 /// An older file there is replaced. So the caller has the octets in memory first, and `Memory` empties no file.
 fn make_file<'a, F: Folder>(files: &mut F, path: &'a str, octets: &[u8]) -> Result<(), Fault<'a>>
-    ensures { MakeFileResult (F.made files.old) (F.made files.new) path.entry.now octets.now result }
+    ensures made { MakeFileResult (F.made files.old) (F.made files.new) path.entry.now octets.now result }
+    ensures logged { F.logged files.new ≡ F.logged files.old }
 {
     match files.make(path, octets) {
         Ok(()) => Ok(()),

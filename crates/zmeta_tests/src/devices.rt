@@ -77,7 +77,7 @@ impl Model for Stored {
 }
 
 impl Stored {
-    ghost use Rattle.std.specs.Prelude.{◌≡◌, IfOk};
+    ghost use Rattle.std.specs.Prelude.{◌≡◌, ◌++◌, ◌∷◌, [], IfOk, OnOk, OnErr};
 
     fn new(alloc: Global, path: &str, contents: &[u8]) -> Result<Stored, AllocError>
         ensures { IfOk result (λ file. file ≡ record { path = path.now; octets = contents.now }) }
@@ -86,6 +86,21 @@ impl Stored {
         let mut octets = Vec::new(alloc);
         octets.extend_from_slice(contents)?;
         Ok(Stored { path, octets })
+    }
+
+    /// Appends a file to those that were made.
+    fn put(alloc: Global, path: &str, contents: &[u8], files: &mut Vec<Stored>) -> io::Result<()>
+        ensures ok { OnOk result (files.new.items
+            ≡ files.old.items ++ (record { path = path.now; octets = contents.now }) ∷ []) }
+        ensures err { OnErr result (files.new.items ≡ files.old.items) }
+    {
+        let Ok(file) = Stored::new(alloc, path, contents) else {
+            return Err(io::Error::from(ErrorKind::OutOfMemory));
+        };
+        match files.push(file) {
+            Ok(()) => Ok(()),
+            Err(_) => Err(io::Error::from(ErrorKind::OutOfMemory)),
+        }
     }
 }
 
@@ -96,6 +111,8 @@ pub(crate) struct Shelf<'a> {
     pub files: &'a [Kept<'a>],
     /// The files made so far, oldest first.
     pub stored: Vec<Stored>,
+    /// The logs ended so far, oldest first.
+    pub logged: Vec<Stored>,
 }
 
 impl Shelf<'_> {
@@ -105,14 +122,9 @@ impl Shelf<'_> {
         ensures ok { OnOk result (self.new.stored.items
             ≡ self.old.stored.items ++ (record { path = path.now; octets = contents.now }) ∷ []) }
         ensures err { OnErr result (self.new.stored.items ≡ self.old.stored.items) }
+        ensures logged { self.new.logged ≡ self.old.logged }
     {
-        let Ok(file) = Stored::new(self.alloc, path, contents) else {
-            return Err(io::Error::from(ErrorKind::OutOfMemory));
-        };
-        match self.stored.push(file) {
-            Ok(()) => Ok(()),
-            Err(_) => Err(io::Error::from(ErrorKind::OutOfMemory)),
-        }
+        Stored::put(self.alloc, path, contents, &mut self.stored)
     }
 }
 
@@ -123,7 +135,11 @@ impl<'a> Folder for Shelf<'a> {
 
     type Draft = Vec<u8>;
 
+    type Log = Vec<u8>;
+
     ghost made = { λ s. Some s.stored.items };
+
+    ghost logged = { λ s. Some s.logged.items };
 
     fn open(&self, path: &str) -> io::Result<Broken<'a>> {
         for file in self.files {
@@ -162,6 +178,25 @@ impl<'a> Folder for Shelf<'a> {
 
     fn discard(&self, draft: Vec<u8>) {
         drop(draft);
+    }
+
+    /// None begins at `none`.
+    fn log(&self, path: &str) -> io::Result<Vec<u8>> {
+        if path == "none" {
+            return Err(io::Error::from(ErrorKind::NotFound));
+        }
+        Ok(Vec::new(self.alloc))
+    }
+
+    /// At `full` only three octets find room.
+    #[tactic(auto, using(crate::proofs::StoredFiles::front_made))]
+    fn close(&mut self, path: &str, log: Vec<u8>) -> io::Result<()> {
+        if path == "full" {
+            let front = log.len().min(3);
+            Stored::put(self.alloc, path, &log.as_slice()[..front], &mut self.logged)?;
+            return Err(io::Error::from(ErrorKind::StorageFull));
+        }
+        Stored::put(self.alloc, path, log.as_slice(), &mut self.logged)
     }
 }
 

@@ -18,6 +18,15 @@ zmeta|loop|world => 3 > - > zmeta: cannot serve%0a
 zmeta|serve|127.0.0.1:0|a|world|1 => 3 > - > zmeta: cannot serve%0a
 zmeta|ask|hosts => 1 > - > zmeta: target \"b\": Connect%0a
 zmeta|ask|hosts|--at-once => 1 > - > zmeta: target \"b\": Connect%0a
+zmeta|ask|hosts|--trace|t => 1 > - > zmeta: target \"b\": Connect%0a
+zmeta|ask|hosts|--trace|none => 3 > - > zmeta: target \"b\": Connect%0azmeta: cannot write none%0a
+zmeta|ask|hosts|--trace|full => 3 > - > zmeta: target \"b\": Connect%0azmeta: cannot write full%0a
+zmeta|ask|world|--trace|none => 3 > - > zmeta: line 27 refused%0a
+zmeta|replay|trace => 1 > - > zmeta: the trace is cut off%0a
+zmeta|replay|world => 3 > - > zmeta: line 1 refused%0a
+zmeta|replay|broken => 3 > - > zmeta: cannot read broken%0a
+zmeta|show|--trace|trace => 0 > 0.000 \"b\" addresses: 1%0a > -
+zmeta|show|--trace|trace|--only|c => 3 > - > zmeta: no question c%0a
 zmeta|join|broken|count => 3 > - > zmeta: cannot read broken%0a
 zmeta|join|count|broken => 3 > - > zmeta: cannot read broken%0a
 zmeta|join|broken|--save|o => 3 > - > zmeta: cannot read broken%0a
@@ -86,6 +95,43 @@ fn is_made(alloc: Global, row: &str) -> Result<bool, Unread> {
 #[test]
 fn one_file_is_made_at_the_path(rt: HostRuntime) -> Result<(), Fail> {
     each_row(rt.alloc(), MADE, is_made)
+}
+
+// A line of words, and the path of the one log that is ended, if any, and the front of what it has.
+const LOGGED: &str = "\
+zmeta|ask|hosts => -
+zmeta|ask|hosts|--trace|none => -
+zmeta|ask|world|--trace|t => -
+zmeta|ask|hosts|--trace|t => t {\"at\":0,\"version\":1}%0a{\"at\":0,\"world\":\"686f7374206220
+zmeta|ask|hosts|--trace|t|--query|x|--only|b => t {\"at\":0,\"version\":1}%0a
+";
+
+fn is_begun(alloc: Global, logged: &[Stored], due: &str) -> Result<bool, Unread> {
+    let (path, front) = pair(due);
+    let Ok(front) = unescape(alloc, front) else {
+        return Err(Unread);
+    };
+    match logged {
+        [] => Ok(due == "-"),
+        [file] => Ok(
+            file.path.as_str() == path && file.octets.as_slice().starts_with(front.as_slice()),
+        ),
+        _ => Ok(false),
+    }
+}
+
+fn is_logged(alloc: Global, row: &str) -> Result<bool, Unread> {
+    let (line, due) = halves(row);
+    let mut shelf = filled_shelf(alloc);
+    if ran_line(alloc, &mut shelf, line, b"").is_err() {
+        return Err(Unread);
+    }
+    is_begun(alloc, shelf.logged.as_slice(), due)
+}
+
+#[test]
+fn a_trace_is_logged_at_the_path(rt: HostRuntime) -> Result<(), Fail> {
+    each_row(rt.alloc(), LOGGED, is_logged)
 }
 
 #[test]

@@ -50,7 +50,21 @@ const ASKED: &[u8] = b"target a 1 n\ndb d\nask a d - 5 dune\n";
 /// A catalogue at an address.
 const HOSTS: &[u8] = b"host b 127.0.0.1:1\nask b d - 1 dune\n";
 
-const FILES: [Kept<'static>; 6] = [
+/// The trace of asking it, which ends once the address is known.
+const TRACE: &[u8] = b"{\"at\":0,\"version\":1}
+{\"at\":0,\"world\":\"686f73742062203132372e302e302e313a310a61736b20622064202d20312064756e650a\"}
+{\"at\":0,\"manner\":\"inOrder\"}
+{\"at\":0,\"connect\":1}
+{\"at\":0,\"patience\":1}
+{\"at\":0,\"connection\":0,\"report\":\"resolved\",\"addresses\":1}
+";
+
+const FILES: [Kept<'static>; 7] = [
+    Kept {
+        path: "trace",
+        octets: TRACE,
+        fails_at: 0,
+    },
     Kept {
         path: "world",
         octets: WORLD,
@@ -90,5 +104,6 @@ pub(crate) fn filled_shelf(alloc: Global) -> Shelf<'static> {
         alloc,
         files: &FILES,
         stored: Vec::new(alloc),
+        logged: Vec::new(alloc),
     }
 }

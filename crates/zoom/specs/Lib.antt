@@ -1,5 +1,14 @@
 pub use Rattle.zoom_asking.specs.Asked
+pub use Rattle.zoom_asking.specs.Askings
+pub use Rattle.zoom_asking.specs.Hosts as AskedHosts
+pub use Rattle.zoom_asking.specs.Inquiries
+pub use Rattle.zoom_asking.specs.Laws as AskingLaws
+pub use Rattle.zoom_asking.specs.declared.asking.Asking as AskingState
+pub use Rattle.zoom_asking.specs.declared.inquiry.AskedHost
 pub use Rattle.zoom_asking.specs.declared.inquiry.Manner
+pub use Rattle.zoom_asking.specs.declared.inquiry.Report
+pub use Rattle.zoom_clock.specs.declared.action.Action
+pub use Rattle.zoom_clock.specs.declared.action.Task
 pub use Rattle.zoom_io.specs.Answering
 pub use Rattle.zoom_io.specs.Blameless
 pub use Rattle.zoom_io.specs.Devices
@@ -57,6 +66,22 @@ pub use Rattle.zoom_tcp.specs.Clients
 pub use Rattle.zoom_tcp.specs.Loopback
 pub use Rattle.zoom_tcp.specs.declared.limits.Family
 pub use Rattle.zoom_tcp.specs.declared.limits.Limits
-pub use Rattle.zoom_tcp.specs.declared.notice.Notice
 pub use Rattle.zoom_tcp.specs.declared.service.ServeError
 pub use Rattle.zoom_tcp.specs.Serving
+pub use Rattle.zoom_trace.specs.Json
+pub use Rattle.zoom_trace.specs.Laws as TraceLaws
+pub use Rattle.zoom_trace.specs.Lines
+pub use Rattle.zoom_trace.specs.Notices
+pub use Rattle.zoom_trace.specs.Recording
+pub use Rattle.zoom_trace.specs.Replays
+pub use Rattle.zoom_trace.specs.Traces
+pub use Rattle.zoom_trace.specs.Tracing
+pub use Rattle.zoom_trace.specs.declared.entry.Given
+pub use Rattle.zoom_trace.specs.declared.entry.TraceEntry
+pub use Rattle.zoom_trace.specs.declared.entry.Traced
+pub use Rattle.zoom_trace.specs.declared.fault.EntryError
+pub use Rattle.zoom_trace.specs.declared.fault.TraceError
+pub use Rattle.zoom_trace.specs.declared.history.Trace
+pub use Rattle.zoom_trace.specs.declared.notice.Notice
+pub use Rattle.zoom_trace.specs.declared.recording.Recorder
+pub use Rattle.zoom_trace.specs.declared.tracing.Tracer

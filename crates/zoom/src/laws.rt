@@ -6,3 +6,8 @@ pub use zoom_pool::laws::{
     order_does_not_matter, take_laws, up_to,
 };
 pub use zoom_sim::laws::run_law;
+pub use zoom_tcp::laws::replayed_law;
+pub use zoom_trace::laws::{
+    followed_law, json_law, line_law, prefix_law, replay_law, reports_law, same_law, sound_law,
+    whole_law, written_law,
+};

@@ -6,7 +6,7 @@
 
 pub mod laws;
 
-pub use zoom_asking::Manner;
+pub use zoom_asking::{Action, AskedHost, Asking, Manner, Report, Task};
 pub use zoom_io::{
     AnswerError, Counting, Failed, PushError, Sink, Source, TalkError, answer, push, talk,
 };
@@ -15,6 +15,10 @@ pub use zoom_questions::{MetaSettings, Move, Question};
 pub use zoom_sim::channels::{Channel, InMemory};
 pub use zoom_sim::{run_over, run_world};
 pub use zoom_tcp::{
-    Arrival, Asked, Clients, Family, Limits, Notice, ServeError, TcpClients, TcpLink, Unwatched,
-    Watch, ask, run_loopback, serve, serve_over,
+    Arrival, Asked, Clients, Family, Limits, ServeError, TcpClients, TcpLink, Unwatched, Watch,
+    ask, run_loopback, serve, serve_over,
+};
+pub use zoom_trace::{
+    EntryError, Given, Notice, Recorder, Trace, TraceEntry, TraceError, Traced, Tracer, feed,
+    notices, put_entry, read_entry, read_trace, replay,
 };

@@ -1,3 +1,5 @@
 pub mod Serving
 pub mod Pairs
-pub mod Reporting
+pub mod Ending
+pub mod Replayed
+pub mod Telling

@@ -1,5 +1,5 @@
 -- Hosts are asked over TCP (Z39.50-2003, 3.2).
-use Rattle.std.specs.Prelude.{ℕ, ◌-◌, ◌^◌, min, List, Option, option_map, map}
+use Rattle.std.specs.Prelude.{◌≡◌, ℕ, ◌-◌, ◌^◌, min, true, List, [], ◌++◌, Option, option_map, map}
 use Rattle.std.specs.declared.time.Duration.{Duration}
 use Rattle.std.specs.Duration.{as_nanos}
 use Rattle.zoom_questions.specs.declared.question.Question.{Question}
@@ -10,9 +10,18 @@ use Rattle.zoom_asking.specs.declared.asking.Asking.{Asking}
 use Rattle.zoom_asking.specs.declared.inquiry.AskedHost.{AskedHost}
 use Rattle.zoom_asking.specs.declared.inquiry.Manner.{Manner}
 use Rattle.zoom_asking.specs.Inquiries.{Inquiry, Entry, inquiry}
-use Rattle.zoom_asking.specs.Askings.{AskingAfter}
-use Rattle.zoom_asking.specs.Asked.{IsAskedBy, AreReports}
+use Rattle.zoom_asking.specs.Askings.{AskingAfter, AreOver}
+use Rattle.zoom_asking.specs.Asked.{IsAskedBy}
 use Rattle.zoom_asking.specs.Laws.{AskedOn, HasEndedIf}
+use Rattle.zoom_trace.specs.declared.entry.TraceEntry.{TraceEntry}
+use Rattle.zoom_trace.specs.declared.history.Trace.{Trace}
+use Rattle.zoom_trace.specs.declared.tracing.Tracer.{Tracer}
+use Rattle.zoom_trace.specs.declared.recording.Recorder.{Recorder}
+use Rattle.zoom_trace.specs.Lines.{trace_of, AreWritable}
+use Rattle.zoom_trace.specs.Replays.{history_after, AreFedWith}
+use Rattle.zoom_trace.specs.Recording.{opening, IsRecordedWith}
+use Rattle.zoom_trace.specs.Traces.{IsTrace}
+use Rattle.zoom_trace.specs.Tracing.{IsTracedIf, IsWrittenOut}
 use Rattle.zoom_tcp.specs.declared.limits.Limits.{Limits}
 
 -- a span of time in nanoseconds, or the most that 64 bits hold
@@ -37,17 +46,31 @@ abbrev pub inquiry_of
 inquiry_of questions s manner limits addresses start =
     inquiry questions s (hosts_of limits addresses) manner (total_of limits) start
 
--- reports led from the one to the other
-abbrev pub IsReportedOn : Asking → Asking → Type 0
-IsReportedOn old new =
-    (i : Inquiry) (history : List Entry) → AskingAfter i history old → AreReports history
-    → (more : List Entry) × AskingAfter i more new × AreReports more
+-- the first entries of a trace: how hosts are asked, at the time at which asking began
+abbrev pub first_entries : Manner → Limits → ℕ → List TraceEntry
+first_entries manner limits start = opening start manner (asked_host limits) (total_of limits)
 
--- after reports each connection is over, or was not chosen, and this is known
-abbrev pub IsAskedFrom : Asking → MetaLinks → Type 0
-IsAskedFrom old meta =
-    (i : Inquiry) (history : List Entry) → AskingAfter i history old → AreReports history
-    → (more : List Entry) × IsAskedBy i more meta
+-- Entries were recorded. After what they tell each connection is over, or was not chosen.
+pub record IsEndedOn {W : Type 0} (contents : W → Option (List ℕ)) (old new : Recorder W) : Type 0 where
+  pub entries : List TraceEntry
+  pub are : IsRecordedWith contents entries old new
+  pub over : (i : Inquiry) (history : List Entry) → AskingAfter i history old.asking
+      → (after : AskingAfter i (history_after entries history) new.asking) × AreOver true after.hosts
+
+-- The trace, if one is written, grew by lines: how hosts are asked, at the time at which asking began, and then
+-- entries. All of it was written, unless a call of the sink failed. What the entries tell was reported, and left what
+-- is known.
+pub record IsTracedAsk
+    {A W : Type 0} (contents : W → Option (List ℕ)) (questions : List Question) (s : MetaSettings) (manner : Manner)
+    (limits : Limits) (addresses : List (Option A)) (given : Option (Tracer W)) (meta : MetaLinks)
+    (left : Option (Tracer W))
+    : Type 0 where
+  pub start : ℕ
+  pub entries : List TraceEntry
+  pub asked : IsAskedBy (inquiry_of questions s manner limits addresses start) (history_after entries []) meta
+  pub writable : AreWritable (first_entries manner limits start ++ entries)
+  pub traced : IsTracedIf contents (first_entries manner limits start ++ entries) given left
+  pub written : IsWrittenOut left
 
 -- Some history of reports, by a clock that began at `start`, left what is known. Each connection that has an address is
 -- Closed or Failed, and the others have no events.
@@ -63,3 +86,13 @@ pub record IsAsked
   pub known : MetaAfter questions s pool meta
   pub ended : (c : ℕ) (asks : AskedOn (inquiry_of questions s manner limits addresses start) c)
       → HasEndedIf asks.host s (events_on c pool)
+
+-- A trace that an ask wrote behind entries that tell nothing was read again, and fed to an asking of the same inquiry
+-- that has just begun. That asking is after the history of the ask.
+abbrev pub ReplayedLaw : Type 0
+ReplayedLaw =
+    (i : Inquiry) (limits : Limits) (told entries : List TraceEntry) (trace : Trace) (first new : Asking)
+    → history_after told [] ≡ [] → AreWritable (told ++ (first_entries i.manner limits i.start ++ entries))
+    → IsTrace (trace_of (told ++ (first_entries i.manner limits i.start ++ entries))) trace
+    → AskingAfter i [] first → AreFedWith trace.entries.items first new
+    → AskingAfter i (history_after entries []) new

@@ -3,3 +3,4 @@ pub mod Clients
 pub mod Families
 pub mod Loopback
 pub mod Serving
+pub mod Telling

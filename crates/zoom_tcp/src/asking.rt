@@ -1,30 +1,35 @@
 //! Asks hosts over TCP: does what `zoom_asking` says, and reports what happens on sockets.
 ghost use Rattle.std.specs.Prelude.{◌≡◌, ◌<◌, ◌^◌, length, option_map, IfOk, OnOk};
 ghost use Rattle.zoom_questions.specs.Askable.{AreFit, AreAskable};
-ghost use Rattle.zoom_tcp.specs.Asking.{IsAsked, IsReportedOn, asked_host, hosts_of};
+ghost use Rattle.zoom_trace.specs.Recording.{IsRecordedOn};
+ghost use Rattle.zoom_tcp.specs.Asking.{IsAsked, IsTracedAsk, asked_host, hosts_of};
+ghost use Rattle.zoom_tcp.specs.Telling.{is_failure, IsHeardIf};
 
 use crate::limits::{Family, Limits};
 use crate::names::{Names, addresses_in, resolve};
-use crate::notice::Notice;
 use crate::sockets::{Happening, Sockets};
 use crate::stopwatch::Stopwatch;
 use crate::watch::Watch;
 use bytes::Bytes;
 use std::alloc::{AllocError, Global};
+use std::io::Write;
 use std::net::{Net, SocketAddr};
 use std::time::{Clock, Duration};
 use zber::Seq;
 use zoom_asking::laws::{asked_end_law, given_up_law};
 use zoom_asking::{Action, AskedHost, Asking, Manner, Report, Task};
 use zoom_pool::{Meta, MetaSettings, Question};
+use zoom_trace::{Notice, Recorder, Tracer};
 
 /// What asking hosts left.
 #[derive(Drop)]
-pub struct Asked {
+pub struct Asked<T> {
     /// The connections and their facts.
     pub meta: Meta,
     /// What was noticed of the host of each connection.
     pub notices: Vec<Notice>,
+    /// The trace that was given, grown by what was reported. No line of it waits to be written.
+    pub trace: Option<Tracer<T>>,
 }
 
 /// Puts each question to the host at the address (`host:port`) with its number, if it has one (Z39.50-2003, 3.2). All
@@ -36,8 +41,12 @@ pub struct Asked {
 /// for the name service of the system, and nobody is served meanwhile. So before the first, and after each for as long
 /// as it took, the hosts that were found are served.
 ///
+/// If a trace is given, it gets lines: how hosts are asked, and then each report and action, the octets that came and
+/// those to be sent, and what was noticed of the hosts. They are written before each wait. A trace that cannot be
+/// written costs itself alone (`Tracer::has_failed`).
+///
 /// Returns an error only if no memory is found.
-pub fn ask<N: Net + Clock, V: Watch>(
+pub fn ask<N: Net + Clock, V: Watch, T: Write + Drop>(
     alloc: Global,
     net: &N,
     questions: Vec<Question>,
@@ -46,14 +55,19 @@ pub fn ask<N: Net + Clock, V: Watch>(
     manner: Manner,
     limits: Limits,
     watch: &mut V,
-) -> Result<Asked, AllocError>
+    trace: Option<Tracer<T>>,
+) -> Result<Asked<T>, AllocError>
     requires some { length questions.items < 2 ^ 32 }
     requires askable { AreAskable questions.items }
     requires fit { AreFit settings }
     requires equal { length addresses.now ≡ length questions.items }
     ensures asked { IfOk result (λ asked. IsAsked questions.items settings manner limits addresses.now asked.meta) }
+    ensures traced { IfOk result (λ asked. IsTracedAsk T.contents questions.items settings manner limits addresses.now
+        trace asked.meta asked.trace) }
 {
     let hosts = hosts_of(alloc, addresses, &limits)?;
+    let host = limits.of_host();
+    let total = limits.total_nanos();
     let stopwatch = Stopwatch::new(net);
     let now = stopwatch.now();
     let asking = Asking::new(
@@ -62,9 +76,11 @@ pub fn ask<N: Net + Clock, V: Watch>(
         settings,
         hosts.as_slice(),
         manner,
-        limits.total_nanos(),
+        total,
         now,
     )?;
+    let mut recorder = Recorder::new(alloc, asking, trace);
+    recorder.begin(now, manner, host, total)?;
     let mut shell = Shell {
         alloc,
         net,
@@ -74,10 +90,15 @@ pub fn ask<N: Net + Clock, V: Watch>(
         names: Names::new(alloc, now),
         sockets: Sockets::new(alloc, net, addresses.len())?,
     };
-    let meta = shell.ask_all(asking, addresses, watch)?;
+    shell.ask_all(&mut recorder, addresses, watch)?;
     let notices = shell.sockets.notices(alloc)?;
+    let (meta, trace) = recorder.into_parts();
     asked_end_law();
-    Ok(Asked { meta, notices })
+    Ok(Asked {
+        meta,
+        notices,
+        trace,
+    })
 }
 
 /// A host for each address.
@@ -120,106 +141,144 @@ struct Shell<'a, N> {
 impl<'a, N: Net + Clock> Shell<'a, N> {
     ghost use Rattle.std.specs.Prelude.{◌≡◌, ◌<◌, ◌^◌, true, length, IfOk, OnOk};
     ghost use Rattle.zoom_asking.specs.Askings.{IsOverAt};
-    ghost use Rattle.zoom_tcp.specs.Asking.{IsAskedFrom, IsReportedOn};
+    ghost use Rattle.zoom_trace.specs.Recording.{IsRecordedOn};
+    ghost use Rattle.zoom_trace.specs.Tracing.{IsWrittenOut};
+    ghost use Rattle.zoom_asking.specs.declared.inquiry.Report.TheVariants as reports;
+    ghost use Rattle.zoom_tcp.specs.Asking.{IsEndedOn};
+    ghost use Rattle.zoom_tcp.specs.Telling.{IsToldIf, IsToldAny, IsHappened};
 
-    /// Asks all hosts to their ends.
-    fn ask_all<V: Watch>(
+    /// Asks all hosts to their ends, and writes what is left of the trace.
+    fn ask_all<V: Watch, T: Write + Drop>(
         &mut self,
-        mut asking: Asking,
+        recorder: &mut Recorder<T>,
         addresses: &[Option<Bytes>],
         watch: &mut V,
-    ) -> Result<Meta, AllocError>
-        requires few { length asking.meta.pool.connections < 2 ^ 32 }
+    ) -> Result<(), AllocError>
+        requires few { length recorder.old.asking.meta.pool.connections < 2 ^ 32 }
         requires named { length addresses.now < 2 ^ 32 }
-        ensures { IfOk result (IsAskedFrom asking) }
+        ensures ended { OnOk result (IsEndedOn T.contents recorder.old recorder.new) }
+        ensures written { OnOk result (IsWrittenOut recorder.new.trace) }
     {
-        self.begin(&mut asking, addresses)?;
-        if self.go(&mut asking, watch)? {
-            return Ok(asking.into_meta());
-        }
-        given_up_law();
-        asking.give_up(self.now)?;
-        Ok(asking.into_meta())
+        self.begin(recorder, addresses)?;
+        self.go_to_end(recorder, watch)?;
+        recorder.write_out();
+        Ok(())
     }
 
     /// Tells which hosts have an address in numbers, and notes the names of the others.
-    fn begin(&mut self, asking: &mut Asking, addresses: &[Option<Bytes>]) -> Result<(), AllocError>
+    #[tactic(auto, using(zoom_trace::proofs::Recorded::none_recorded))]
+    fn begin<T: Write + Drop>(
+        &mut self,
+        recorder: &mut Recorder<T>,
+        addresses: &[Option<Bytes>],
+    ) -> Result<(), AllocError>
         requires few { length addresses.now < 2 ^ 32 }
-        ensures on { OnOk result (IsReportedOn asking.old asking.new) }
-        ensures size { length asking.new.meta.pool.connections ≡ length asking.old.meta.pool.connections }
+        ensures { OnOk result (IsRecordedOn T.contents recorder.old recorder.new) }
     {
         for i in 0..addresses.len() {
-            self.begin_if(asking, i as u32, &addresses[i])?;
+            self.begin_if(recorder, i as u32, &addresses[i])?;
         }
         Ok(())
     }
 
-    fn begin_if(
+    /// The same of one connection, if it has a host.
+    #[tactic(auto, using(zoom_trace::proofs::Recorded::none_recorded))]
+    fn begin_if<T: Write + Drop>(
         &mut self,
-        asking: &mut Asking,
+        recorder: &mut Recorder<T>,
         c: u32,
         name: &Option<Bytes>,
     ) -> Result<(), AllocError>
-        ensures on { OnOk result (IsReportedOn asking.old asking.new) }
-        ensures size { length asking.new.meta.pool.connections ≡ length asking.old.meta.pool.connections }
+        ensures { OnOk result (IsRecordedOn T.contents recorder.old recorder.new) }
     {
         match name {
-            Some(name) => self.begin_one(asking, c, name),
+            Some(name) => self.begin_one(recorder, c, name),
             None => Ok(()),
         }
     }
 
-    fn begin_one(&mut self, asking: &mut Asking, c: u32, name: &Bytes) -> Result<(), AllocError>
-        ensures on { OnOk result (IsReportedOn asking.old asking.new) }
-        ensures size { length asking.new.meta.pool.connections ≡ length asking.old.meta.pool.connections }
+    /// Tells the address of a host whose name is one in numbers, and notes any other name.
+    #[tactic(auto, using(zoom_trace::proofs::Recorded::none_recorded))]
+    fn begin_one<T: Write + Drop>(
+        &mut self,
+        recorder: &mut Recorder<T>,
+        c: u32,
+        name: &Bytes,
+    ) -> Result<(), AllocError>
+        ensures { OnOk result (IsRecordedOn T.contents recorder.old recorder.new) }
     {
         match addresses_in(self.alloc, name.as_slice(), self.family)? {
-            Some(found) => self.resolved(asking, c, found.addresses, found.notice),
+            Some(found) => self.resolved(recorder, c, found.addresses, found.notice),
             None => self.names.put(c, name.clone()?),
         }
     }
 
     /// These are the addresses of a connection's host. If there are none, that is why.
-    fn resolved(
+    fn resolved<T: Write + Drop>(
         &mut self,
-        asking: &mut Asking,
+        recorder: &mut Recorder<T>,
         c: u32,
         addresses: Vec<SocketAddr>,
         notice: Notice,
     ) -> Result<(), AllocError>
-        ensures on { OnOk result (IsReportedOn asking.old asking.new) }
-        ensures size { length asking.new.meta.pool.connections ≡ length asking.old.meta.pool.connections }
+        ensures on { OnOk result (IsRecordedOn T.contents recorder.old recorder.new) }
+        ensures told { OnOk result (IsToldIf T.contents self.old.now c (reports.Resolved (length addresses.items))
+            recorder.old recorder.new) }
     {
         let count = addresses.len();
         self.sockets.know(c, addresses, notice);
-        tell(asking, self.now, c, Report::Resolved(count))
+        self.tell(recorder, c, Report::Resolved(count))
     }
 
-    /// Goes on until each connection is over, for 2^64 - 1 wakes at most. Returns whether they are over.
-    fn go<V: Watch>(&mut self, asking: &mut Asking, watch: &mut V) -> Result<bool, AllocError>
-        requires few { length asking.old.meta.pool.connections < 2 ^ 32 }
-        ensures on { OnOk result (IsReportedOn asking.old asking.new) }
-        ensures over { IfOk result (λ over. over ≡ true → IsOverAt asking.new true) }
+    /// Goes on until each connection is over, for 2^64 - 1 wakes at most. Returns whether they are over. What was
+    /// reported is written before each wait.
+    #[tactic(auto, using(zoom_trace::proofs::Recorded::none_recorded))]
+    fn go<V: Watch, T: Write + Drop>(
+        &mut self,
+        recorder: &mut Recorder<T>,
+        watch: &mut V,
+    ) -> Result<bool, AllocError>
+        requires few { length recorder.old.asking.meta.pool.connections < 2 ^ 32 }
+        ensures recorded { OnOk result (IsRecordedOn T.contents recorder.old recorder.new) }
+        ensures over { IfOk result (λ over. over ≡ true → IsOverAt recorder.new.asking true) }
     {
         for _ in 0..u64::MAX {
-            self.act_all(asking)?;
-            let again = watch.look(asking.meta());
-            if asking.is_over() {
+            self.act_all(recorder)?;
+            let again = watch.look(recorder.meta());
+            if recorder.is_over() {
                 return Ok(true);
             }
-            let most = self.look_up(asking)?;
-            self.wake(asking, shorter_of(most, again))?;
+            recorder.write_out();
+            let most = self.look_up(recorder)?;
+            self.wake(recorder, shorter_of(most, again))?;
         }
         Ok(false)
     }
 
+    /// Goes on until each connection is over. What is not over after 2^64 - 1 wakes is given up.
+    fn go_to_end<V: Watch, T: Write + Drop>(
+        &mut self,
+        recorder: &mut Recorder<T>,
+        watch: &mut V,
+    ) -> Result<(), AllocError>
+        requires few { length recorder.old.asking.meta.pool.connections < 2 ^ 32 }
+        ensures { OnOk result (IsEndedOn T.contents recorder.old recorder.new) }
+    {
+        if self.go(recorder, watch)? {
+            return Ok(());
+        }
+        given_up_law();
+        recorder.give_up(self.now)?;
+        Ok(())
+    }
+
     /// Does all that is to be done.
-    fn act_all(&mut self, asking: &mut Asking) -> Result<(), AllocError>
-        ensures on { OnOk result (IsReportedOn asking.old asking.new) }
-        ensures size { length asking.new.meta.pool.connections ≡ length asking.old.meta.pool.connections }
+    #[tactic(auto, using(zoom_trace::proofs::Recorded::none_recorded))]
+    fn act_all<T: Write + Drop>(&mut self, recorder: &mut Recorder<T>) -> Result<(), AllocError>
+        ensures { OnOk result (IsRecordedOn T.contents recorder.old recorder.new) }
     {
         for _ in 0..u64::MAX {
-            if !self.act_next(asking)? {
+            if !self.act_next(recorder)? {
                 return Ok(());
             }
         }
@@ -227,27 +286,32 @@ impl<'a, N: Net + Clock> Shell<'a, N> {
     }
 
     /// Does what is to be done next. Returns whether there was anything.
-    fn act_next(&mut self, asking: &mut Asking) -> Result<bool, AllocError>
-        ensures on { OnOk result (IsReportedOn asking.old asking.new) }
-        ensures size { length asking.new.meta.pool.connections ≡ length asking.old.meta.pool.connections }
+    #[tactic(auto, using(zoom_trace::proofs::Recorded::none_recorded, zoom_trace::proofs::Recorded::one_recorded))]
+    fn act_next<T: Write + Drop>(&mut self, recorder: &mut Recorder<T>) -> Result<bool, AllocError>
+        ensures { OnOk result (IsRecordedOn T.contents recorder.old recorder.new) }
     {
-        let Some(action) = asking.next_action() else {
+        let next = recorder.next_action(self.now)?;
+        let Some(action) = next else {
             return Ok(false);
         };
-        let report = self.act(asking, action)?;
-        tell_if(asking, self.now, action.c, report)?;
+        let report = self.act(recorder, action)?;
+        self.tell_if(recorder, action.c, report)?;
         Ok(true)
     }
 
     /// Does what an action says. Returns what happened at once, if anything did.
-    fn act(&mut self, asking: &mut Asking, action: Action) -> Result<Option<Report>, AllocError>
-        ensures on { OnOk result (IsReportedOn asking.old asking.new) }
-        ensures size { length asking.new.meta.pool.connections ≡ length asking.old.meta.pool.connections }
+    #[tactic(auto, using(zoom_trace::proofs::Recorded::none_recorded))]
+    fn act<T: Write + Drop>(
+        &mut self,
+        recorder: &mut Recorder<T>,
+        action: Action,
+    ) -> Result<Option<Report>, AllocError>
+        ensures { OnOk result (IsRecordedOn T.contents recorder.old recorder.new) }
     {
         let c = action.c;
         match action.task {
             Task::Connect(k) => self.sockets.connect(c, k),
-            Task::Send => self.send(asking, c),
+            Task::Send => self.send(recorder, c),
             Task::Read => {
                 self.sockets.read_on(c)?;
                 Ok(None)
@@ -260,26 +324,33 @@ impl<'a, N: Net + Clock> Shell<'a, N> {
     }
 
     /// Sends what waits on a connection.
-    fn send(&mut self, asking: &mut Asking, c: u32) -> Result<Option<Report>, AllocError>
-        ensures on { OnOk result (IsReportedOn asking.old asking.new) }
-        ensures size { length asking.new.meta.pool.connections ≡ length asking.old.meta.pool.connections }
+    #[tactic(auto, using(zoom_trace::proofs::Recorded::none_recorded, zoom_trace::proofs::Recorded::one_recorded))]
+    fn send<T: Write + Drop>(
+        &mut self,
+        recorder: &mut Recorder<T>,
+        c: u32,
+    ) -> Result<Option<Report>, AllocError>
+        ensures { OnOk result (IsRecordedOn T.contents recorder.old recorder.new) }
     {
-        if (c as usize) >= asking.connections() {
+        if (c as usize) >= recorder.connections() {
             return Ok(None);
         }
         let Some(unsent) = self.sockets.unsent(c) else {
             return Ok(None);
         };
-        asking.outgoing(c, unsent)?;
+        recorder.outgoing(self.now, c, unsent)?;
         self.sockets.send(c)
     }
 
     /// Looks up the next name, if it is due. Returns how long to wait for sockets then.
-    fn look_up(&mut self, asking: &mut Asking) -> Result<Option<Duration>, AllocError>
-        ensures on { OnOk result (IsReportedOn asking.old asking.new) }
-        ensures size { length asking.new.meta.pool.connections ≡ length asking.old.meta.pool.connections }
+    #[tactic(auto, using(zoom_trace::proofs::Recorded::none_recorded))]
+    fn look_up<T: Write + Drop>(
+        &mut self,
+        recorder: &mut Recorder<T>,
+    ) -> Result<Option<Duration>, AllocError>
+        ensures { OnOk result (IsRecordedOn T.contents recorder.old recorder.new) }
     {
-        let wake_at = asking.wake_at();
+        let wake_at = recorder.wake_at();
         let Some(due_at) = self.names.due_at(self.sockets.is_idle()) else {
             return Ok(self.left(wake_at));
         };
@@ -287,14 +358,17 @@ impl<'a, N: Net + Clock> Shell<'a, N> {
             let until = wake_at.unwrap_or(u64::MAX).min(due_at);
             return Ok(self.left(Some(until)));
         }
-        self.look_up_next(asking)?;
+        self.look_up_next(recorder)?;
         Ok(Some(Duration::ZERO))
     }
 
     /// Looks up the next name, and tells what was found.
-    fn look_up_next(&mut self, asking: &mut Asking) -> Result<(), AllocError>
-        ensures on { OnOk result (IsReportedOn asking.old asking.new) }
-        ensures size { length asking.new.meta.pool.connections ≡ length asking.old.meta.pool.connections }
+    #[tactic(auto, using(zoom_trace::proofs::Recorded::none_recorded))]
+    fn look_up_next<T: Write + Drop>(
+        &mut self,
+        recorder: &mut Recorder<T>,
+    ) -> Result<(), AllocError>
+        ensures { OnOk result (IsRecordedOn T.contents recorder.old recorder.new) }
     {
         let Some((name, connections)) = self.names.next()? else {
             return Ok(());
@@ -305,7 +379,7 @@ impl<'a, N: Net + Clock> Shell<'a, N> {
         self.names.pass(before, self.now);
         for i in 0..connections.len() {
             self.resolved(
-                asking,
+                recorder,
                 connections[i],
                 found.addresses.clone()?,
                 found.notice,
@@ -323,51 +397,107 @@ impl<'a, N: Net + Clock> Shell<'a, N> {
     }
 
     /// Waits until sockets are ready, or the time is up, and tells what happened on each.
-    fn wake(&mut self, asking: &mut Asking, most: Option<Duration>) -> Result<(), AllocError>
-        ensures on { OnOk result (IsReportedOn asking.old asking.new) }
-        ensures size { length asking.new.meta.pool.connections ≡ length asking.old.meta.pool.connections }
+    fn wake<T: Write + Drop>(
+        &mut self,
+        recorder: &mut Recorder<T>,
+        most: Option<Duration>,
+    ) -> Result<(), AllocError>
+        ensures { OnOk result (IsRecordedOn T.contents recorder.old recorder.new) }
     {
         self.sockets.wait(most)?;
         self.now = self.stopwatch.now();
-        self.serve_all(asking)?;
-        asking.tick(self.now)?;
+        self.serve_all(recorder)?;
+        recorder.tick(self.now)?;
         Ok(())
     }
 
     /// Serves each socket that is ready once, and tells what happened on it.
-    fn serve_all(&mut self, asking: &mut Asking) -> Result<(), AllocError>
-        ensures on { OnOk result (IsReportedOn asking.old asking.new) }
-        ensures size { length asking.new.meta.pool.connections ≡ length asking.old.meta.pool.connections }
+    #[tactic(auto, using(zoom_trace::proofs::Recorded::none_recorded))]
+    fn serve_all<T: Write + Drop>(&mut self, recorder: &mut Recorder<T>) -> Result<(), AllocError>
+        ensures { OnOk result (IsRecordedOn T.contents recorder.old recorder.new) }
     {
         for _ in 0..self.sockets.queued() {
-            self.serve_next(asking)?;
+            self.serve_next(recorder)?;
         }
         Ok(())
     }
 
-    fn serve_next(&mut self, asking: &mut Asking) -> Result<(), AllocError>
-        ensures on { OnOk result (IsReportedOn asking.old asking.new) }
-        ensures size { length asking.new.meta.pool.connections ≡ length asking.old.meta.pool.connections }
+    /// Serves the next socket that is ready, if there is one, and tells what happened on it.
+    #[tactic(auto, using(zoom_trace::proofs::Recorded::none_recorded))]
+    fn serve_next<T: Write + Drop>(&mut self, recorder: &mut Recorder<T>) -> Result<(), AllocError>
+        ensures { OnOk result (IsRecordedOn T.contents recorder.old recorder.new) }
     {
         match self.sockets.serve()? {
-            Some((c, happening)) => self.happen(asking, c, happening),
+            Some((c, happening)) => self.happen(recorder, c, happening),
             None => Ok(()),
         }
     }
 
-    fn happen(
+    /// Tells what happened on a connection.
+    fn happen<T: Write + Drop>(
         &mut self,
-        asking: &mut Asking,
+        recorder: &mut Recorder<T>,
         c: u32,
         happening: Happening,
     ) -> Result<(), AllocError>
-        ensures on { OnOk result (IsReportedOn asking.old asking.new) }
-        ensures size { length asking.new.meta.pool.connections ≡ length asking.old.meta.pool.connections }
+        ensures on { OnOk result (IsRecordedOn T.contents recorder.old recorder.new) }
+        ensures happened { OnOk result (IsHappened T.contents self.old.now c happening recorder.old recorder.new) }
     {
         match happening {
-            Happening::Report(report) => tell(asking, self.now, c, report),
-            Happening::Octets(count) => hear(asking, self.now, c, self.sockets.piece(count)),
+            Happening::Report(report) => self.tell(recorder, c, report),
+            Happening::Octets(count) => hear(recorder, self.now, c, self.sockets.piece(count)),
         }
+    }
+
+    /// Reports what happened on a connection, if anything did.
+    #[tactic(auto, using(zoom_trace::proofs::Recorded::none_recorded))]
+    fn tell_if<T: Write + Drop>(
+        &mut self,
+        recorder: &mut Recorder<T>,
+        c: u32,
+        report: Option<Report>,
+    ) -> Result<(), AllocError>
+        ensures on { OnOk result (IsRecordedOn T.contents recorder.old recorder.new) }
+        ensures told { OnOk result (IsToldAny T.contents self.old.now c report recorder.old recorder.new) }
+    {
+        match report {
+            Some(report) => self.tell(recorder, c, report),
+            None => Ok(()),
+        }
+    }
+
+    /// Reports what happened on a connection. If the system may tell why, puts down what was noticed of its host.
+    #[tactic(auto, using(zoom_trace::proofs::Recorded::none_recorded, zoom_trace::proofs::Recorded::one_recorded, crate::proofs::Telling::none_told, crate::proofs::Telling::report_told, crate::proofs::Telling::failure_told))]
+    fn tell<T: Write + Drop>(
+        &mut self,
+        recorder: &mut Recorder<T>,
+        c: u32,
+        report: Report,
+    ) -> Result<(), AllocError>
+        ensures on { OnOk result (IsRecordedOn T.contents recorder.old recorder.new) }
+        ensures told { OnOk result (IsToldIf T.contents self.old.now c report recorder.old recorder.new) }
+    {
+        if (c as usize) >= recorder.connections() {
+            return Ok(());
+        }
+        recorder.report(self.now, c, report)?;
+        if !is_failure(report) {
+            return Ok(());
+        }
+        let noticed = self.sockets.notice(c);
+        recorder.notice(self.now, c, noticed)?;
+        Ok(())
+    }
+}
+
+/// Whether a report is one of which the system may tell why.
+fn is_failure(report: Report) -> bool
+    ensures { result ≡ is_failure report }
+{
+    match report {
+        Report::Resolved(count) => count == 0,
+        Report::Unreachable(_) | Report::End | Report::Unreadable | Report::Unwritable => true,
+        Report::Connected(_) | Report::NoSocket(_) | Report::Taken => false,
     }
 }
 
@@ -380,35 +510,19 @@ fn shorter_of(one: Option<Duration>, other: Option<Duration>) -> Option<Duration
     }
 }
 
-/// Reports what happened on a connection, if anything did.
-fn tell_if(asking: &mut Asking, now: u64, c: u32, report: Option<Report>) -> Result<(), AllocError>
-    ensures on { OnOk result (IsReportedOn asking.old asking.new) }
-    ensures size { length asking.new.meta.pool.connections ≡ length asking.old.meta.pool.connections }
-{
-    match report {
-        Some(report) => tell(asking, now, c, report),
-        None => Ok(()),
-    }
-}
-
-/// Reports what happened on a connection.
-fn tell(asking: &mut Asking, now: u64, c: u32, report: Report) -> Result<(), AllocError>
-    ensures on { OnOk result (IsReportedOn asking.old asking.new) }
-    ensures size { length asking.new.meta.pool.connections ≡ length asking.old.meta.pool.connections }
-{
-    if (c as usize) < asking.connections() {
-        asking.report(now, c, report)?;
-    }
-    Ok(())
-}
-
 /// Reports octets that came on a connection.
-fn hear(asking: &mut Asking, now: u64, c: u32, piece: &[u8]) -> Result<(), AllocError>
-    ensures on { OnOk result (IsReportedOn asking.old asking.new) }
-    ensures size { length asking.new.meta.pool.connections ≡ length asking.old.meta.pool.connections }
+#[tactic(auto, using(zoom_trace::proofs::Recorded::none_recorded, zoom_trace::proofs::Recorded::one_recorded, crate::proofs::Telling::none_heard, crate::proofs::Telling::octets_heard))]
+fn hear<T: Write + Drop>(
+    recorder: &mut Recorder<T>,
+    now: u64,
+    c: u32,
+    piece: &[u8],
+) -> Result<(), AllocError>
+    ensures on { OnOk result (IsRecordedOn T.contents recorder.old recorder.new) }
+    ensures heard { OnOk result (IsHeardIf T.contents now c piece.now recorder.old recorder.new) }
 {
-    if (c as usize) < asking.connections() {
-        asking.octets(now, c, piece)?;
+    if (c as usize) < recorder.connections() {
+        recorder.octets(now, c, piece)?;
     }
     Ok(())
 }

@@ -1,8 +1,8 @@
 //! One host: its addresses, its sockets, and the octets that it has not taken yet.
-use crate::notice::Notice;
 use crate::socket::{Moved, Socket};
 use std::alloc::{AllocError, Global};
 use std::net::SocketAddr;
+use zoom_trace::Notice;
 
 /// A host: its addresses, its sockets, and the octets that it has not taken yet.
 #[derive(Drop)]

@@ -3,11 +3,12 @@ ghost use Rattle.std.specs.Prelude.{◌≡◌, [], IfOk, IfSome, OnOk};
 ghost use Rattle.zoom_tcp.specs.Families.{AreUsed};
 
 use crate::limits::Family;
-use crate::notice::Notice;
+use crate::notice::of_name;
 use bytes::Bytes;
 use indexmap::IndexMap;
 use std::alloc::{AllocError, Global};
 use std::net::{Net, SocketAddr, ToSocketAddrs};
+use zoom_trace::Notice;
 
 /// How long hosts with an address in numbers are served before the first name is looked up, in nanoseconds.
 const FIRST_PAUSE: u64 = 500_000_000;
@@ -138,7 +139,7 @@ pub(crate) fn resolve<N: Net>(
     };
     let addresses = match text.to_socket_addrs(net) {
         Ok(addresses) => addresses,
-        Err(error) => return Ok(none_for(alloc, Notice::of_name(&error))),
+        Err(error) => return Ok(none_for(alloc, of_name(&error))),
     };
     let mut found = none_for(alloc, Notice::NoFamily);
     for address in addresses {

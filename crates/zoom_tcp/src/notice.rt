@@ -1,44 +1,21 @@
-//! What was noticed of a host that is not in its connection's state.
+//! What failed calls of the system tell of a host.
 use std::io;
 use std::io::ErrorKind;
+use zoom_trace::Notice;
 
-/// What was noticed of a host last, beside the state of its connection. It says why a connection failed, as far as the
-/// system told. No clause speaks of it.
-#[derive(Clone, Copy, Debug, PartialEq, Eq)]
-pub enum Notice {
-    /// Nothing: the host was silent, or there was no time for it.
-    Nothing,
-    /// Its address is no `host:port` with a port from 0 to 65,535.
-    NoPort,
-    /// No address was found for its name.
-    NoName,
-    /// Its name has addresses, but none of the family that is used.
-    NoFamily,
-    /// It refused each attempt to connect, as far as the last tells.
-    Refused,
-    /// There is no way to it.
-    NoRoute,
-    /// It ended the connection.
-    Ended,
-    /// The connection broke.
-    Reset,
+/// What an attempt to connect tells by its failure.
+pub(crate) fn of_attempt(error: &io::Error) -> Notice {
+    match error.kind() {
+        ErrorKind::ConnectionRefused => Notice::Refused,
+        ErrorKind::TimedOut => Notice::Nothing,
+        _ => Notice::NoRoute,
+    }
 }
 
-impl Notice {
-    /// What an attempt to connect tells by its failure.
-    pub(crate) fn of_attempt(error: &io::Error) -> Notice {
-        match error.kind() {
-            ErrorKind::ConnectionRefused => Notice::Refused,
-            ErrorKind::TimedOut => Notice::Nothing,
-            _ => Notice::NoRoute,
-        }
-    }
-
-    /// What a look-up tells by its failure.
-    pub(crate) fn of_name(error: &io::Error) -> Notice {
-        match error.kind() {
-            ErrorKind::InvalidInput => Notice::NoPort,
-            _ => Notice::NoName,
-        }
+/// What a look-up tells by its failure.
+pub(crate) fn of_name(error: &io::Error) -> Notice {
+    match error.kind() {
+        ErrorKind::InvalidInput => Notice::NoPort,
+        _ => Notice::NoName,
     }
 }

@@ -1,11 +1,12 @@
 //! One socket, read and written without waiting.
-use crate::notice::Notice;
+use crate::notice::of_attempt;
 use libc::net as c;
 use mio::event::Event;
 use mio::net::TcpStream;
 use std::io;
 use std::io::{ErrorKind, Read, Write};
 use std::os::fd::{AsRawFd, RawFd};
+use zoom_trace::Notice;
 
 /// What moving octets gave.
 #[derive(Clone, Copy, Debug, PartialEq, Eq)]
@@ -89,12 +90,12 @@ impl Socket {
     pub(crate) fn progress(&self) -> Progress {
         match self.stream.take_error() {
             Ok(None) => {}
-            Ok(Some(error)) | Err(error) => return Progress::Failed(Notice::of_attempt(&error)),
+            Ok(Some(error)) | Err(error) => return Progress::Failed(of_attempt(&error)),
         }
         match self.stream.peer_addr() {
             Ok(_) => Progress::Connected,
             Err(error) if error.kind() == ErrorKind::NotConnected => Progress::Pending,
-            Err(error) => Progress::Failed(Notice::of_attempt(&error)),
+            Err(error) => Progress::Failed(of_attempt(&error)),
         }
     }
 

@@ -1,7 +1,7 @@
 //! The sockets of all hosts, watched by one poll of the system.
 use crate::failures::is_for_want;
 use crate::host::Host;
-use crate::notice::Notice;
+use crate::notice::of_attempt;
 use crate::socket::{Moved, Progress, Socket};
 use mio::event::Event;
 use mio::net::TcpStream;
@@ -12,6 +12,7 @@ use std::io;
 use std::net::{Net, SocketAddr};
 use std::time::Duration;
 use zoom_asking::Report;
+use zoom_trace::Notice;
 
 /// The most sockets that one wait reports. The next wait reports the others.
 const MOST_EVENTS: usize = 256;
@@ -115,6 +116,14 @@ impl<'a, N: Net> Sockets<'a, N> {
         }
     }
 
+    /// What was noticed of a connection's host.
+    pub(crate) fn notice(&self, c: u32) -> Notice {
+        match self.hosts.get(c as usize) {
+            Some(host) => host.notice(),
+            None => Notice::Nothing,
+        }
+    }
+
     /// What was noticed of each host.
     pub(crate) fn notices(&self, alloc: Global) -> Result<Vec<Notice>, AllocError> {
         self.hosts.iter().map(|host| host.notice()).collect(alloc)
@@ -136,7 +145,7 @@ impl<'a, N: Net> Sockets<'a, N> {
             }
             Err(error) if is_for_want(&error) => Ok(Some(Report::NoSocket(k))),
             Err(error) => {
-                host.note_attempt(Notice::of_attempt(&error));
+                host.note_attempt(of_attempt(&error));
                 Ok(Some(Report::Unreachable(k)))
             }
         }

@@ -9,7 +9,8 @@ returns g c = (
   c.parse-asked.result,
   after_parsed g.row.S-Stream.Denot
       (ServedAt g.row.S.Denot g.row.S-Client.Denot {L = g.row.S-Door.Denot} g.S.Doors.IsAt
-      (g.S.Doors.IsShut c.args.system.now)) (g.S.Folder.octets c.args.system.now) _ c.parse-asked.result
+      (g.S.Doors.IsShut c.args.system.now)) (g.S.Folder.octets c.args.system.now) (g.S.Folder.logged c.args.system.now)
+      (g.S.Folder.logged c.run_parsed.new.system) _ c.parse-asked.result
       (c.run_parsed.new.input ≡ c.args.input.now)
       (g.S.Folder.made c.args.system.now) (g.S.Folder.made c.run_parsed.new.system)
       (streams g.R.Read.remaining g.W.Write.contents g.E.Write.contents c.args.input.now c.args.output.now c.args.errors.now)

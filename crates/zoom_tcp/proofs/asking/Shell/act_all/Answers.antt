@@ -1,11 +1,12 @@
-use Rattle.zoom_tcp.proofs.Reporting.{more_reported, on_more}
+use Rattle.zoom_trace.proofs.Recorded.{more_recorded}
 use Rattle.zoom_tcp.proofs.asking.Shell.act_all.Goals as goal
 
-pub returns-then-not-branch-clause-on : goal.returns-then-not-branch-clause-on
-returns-then-not-branch-clause-on g c =
-    more_reported c.args.asking.now c.loop.asking c.act_next.new.asking c.loop.invariant.0 c.in_ok-act_next.ensures.on
+pub returns-then-not-branch : goal.returns-then-not-branch
+returns-then-not-branch g c =
+    more_recorded g.T.Write.contents c.args.recorder.now c.loop.recorder c.act_next.new.recorder c.loop.invariant
+    c.in_ok-act_next.ensures
 
 pub loop-preserved : goal.loop-preserved
 loop-preserved g c =
-    on_more c.args.asking.now c.loop.asking c.act_next.new.asking c.loop.invariant c.in_ok-act_next.ensures.on
-    c.in_ok-act_next.ensures.size
+    more_recorded g.T.Write.contents c.args.recorder.now c.loop.recorder c.act_next.new.recorder c.loop.invariant
+    c.in_ok-act_next.ensures

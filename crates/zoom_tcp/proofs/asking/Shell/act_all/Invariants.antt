@@ -1,8 +1,5 @@
-use Rattle.std.proofs.Common.{◌≡◌, length}
-use Rattle.zoom_tcp.specs.Asking.{IsReportedOn}
+use Rattle.zoom_trace.specs.Recording.{IsRecordedOn}
 use Rattle.zoom_tcp.proofs.asking.Shell.act_all.Given as goal
 
 abbrev pub invariant-loop : goal.invariant-loop
-invariant-loop g l =
-    IsReportedOn l.initial.asking l.asking
-    × (length l.asking.meta.pool.connections ≡ length l.initial.asking.meta.pool.connections)
+invariant-loop g l = IsRecordedOn g.T.Write.contents l.initial.recorder l.recorder

@@ -1,9 +1,12 @@
-use Rattle.zoom_tcp.proofs.Reporting.{kept_reported, more_reported}
+use Rattle.zoom_trace.specs.Recording.{wanted}
+use Rattle.zoom_trace.proofs.Recorded.{one_recorded, more_recorded}
 use Rattle.zoom_tcp.proofs.asking.Shell.act_next.Goals as goal
 
-pub returns-clause-on : goal.returns-clause-on
-returns-clause-on g c =
-    let told = more_reported c.next_action.new.self c.act.new.asking c.tell_if.new.asking c.in_ok-report.ensures.on
-    c.in_ok-tell_if.ensures.on in
-    more_reported c.args.asking.now c.next_action.new.self c.tell_if.new.asking
-    (kept_reported c.args.asking.now c.next_action.new.self c.next_action.ensures.after) told
+pub returns : goal.returns
+returns g c =
+    let W = g.T.Write.contents in
+    let old = c.args.recorder.now in
+    let next = c.next_action.new.self in
+    let got = one_recorded W (wanted c.args.self.now.now c.in_ok-next.next) old next c.in_ok-next.ensures.recorded in
+    let acted = more_recorded W old next c.act.new.recorder got c.in_ok-report.ensures in
+    more_recorded W old c.act.new.recorder c.tell_if.new.recorder acted c.in_ok-tell_if.ensures.on

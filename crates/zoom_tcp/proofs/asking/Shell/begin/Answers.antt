@@ -1,7 +1,7 @@
-use Rattle.zoom_tcp.proofs.Reporting.{on_more}
+use Rattle.zoom_trace.proofs.Recorded.{more_recorded}
 use Rattle.zoom_tcp.proofs.asking.Shell.begin.Goals as goal
 
 pub loop-i-preserved : goal.loop-i-preserved
 loop-i-preserved g c =
-    on_more c.args.asking.now c.loop-i.asking c.begin_if.new.asking c.loop-i.invariant c.in_ok-begin_if.ensures.on
-    c.in_ok-begin_if.ensures.size
+    more_recorded g.T.Write.contents c.args.recorder.now c.loop-i.recorder c.begin_if.new.recorder c.loop-i.invariant
+    c.in_ok-begin_if.ensures

@@ -1,7 +1,7 @@
-use Rattle.zoom_tcp.proofs.Reporting.{on_more}
+use Rattle.zoom_trace.proofs.Recorded.{more_recorded}
 use Rattle.zoom_tcp.proofs.asking.Shell.serve_all.Goals as goal
 
 pub loop-preserved : goal.loop-preserved
 loop-preserved g c =
-    on_more c.args.asking.now c.loop.asking c.serve_next.new.asking c.loop.invariant c.in_ok-serve_next.ensures.on
-    c.in_ok-serve_next.ensures.size
+    more_recorded g.T.Write.contents c.args.recorder.now c.loop.recorder c.serve_next.new.recorder c.loop.invariant
+    c.in_ok-serve_next.ensures

@@ -1,0 +1,114 @@
+-- The plan of a world file, and what came of asking its hosts.
+use Rattle.std.proofs.Common.{◌≡◌, subst, ℕ, List, Option, Some, None, Result, Ok, Err, IfSome, inl, inr}
+use Rattle.zmeta_args.specs.declared.arguments.View.{View}
+use Rattle.zmeta_world.specs.Search.{SearchTexts}
+use Rattle.zmeta_world.specs.declared.world.World.{World}
+use Rattle.zmeta_world.specs.declared.network.NetworkRun.{NetworkRun}
+use Rattle.zmeta_devices.specs.declared.fault.Fault.{Fault}
+use Rattle.zmeta_devices.specs.declared.fault.Fault.TheVariants.{Read, Line, Query, Wanted, Syntax, NoQuestion, Memory}
+use Rattle.zmeta_commands.specs.declared.finished.Finished.{Finished}
+use Rattle.zmeta_commands.specs.declared.ask.Planned.{Planned}
+use Rattle.zmeta_commands.specs.Ask.{IsNetworkFile, ReadNetworkResult, AskNetworkResult, AskFileResult, IsOfAsking}
+use Rattle.zmeta_commands.specs.Choice.{ChoiceTexts}
+use Rattle.zmeta_commands.specs.Finished.{IsOfFile, IsOfTexts, IsOfSearchedWorld}
+use Rattle.zmeta_commands.specs.Traced.{IsPlannedOf, PlannedResult}
+use Rattle.zmeta_commands.specs.Worlds.{IsSearchedFile, SearchedResult, PlanResult}
+
+-- the file cannot be read
+pub unread : (search : SearchTexts) (path : List ℕ) (file : Option (List ℕ)) (f : Fault) → IsOfFile path f
+    → PlannedResult search file (Err f)
+unread search path None f of = tt
+unread search path (Some octets) (Read failed) of = tt
+unread search path (Some octets) Memory of = tt
+unread search path (Some octets) f of = absurd of
+
+-- the world, or the search, is refused
+pub refused_in : (search : SearchTexts) (octets : List ℕ) (f : Fault) → SearchedResult search octets (Err f)
+    → ReadNetworkResult search octets (Err f)
+refused_in search octets (Line number) h = inl h
+refused_in search octets (Read path) h = tt
+refused_in search octets Memory h = tt
+refused_in search octets (Query kind at text) h = h
+refused_in search octets (Wanted text) h = h
+refused_in search octets (Syntax text) h = h
+refused_in search octets f h = absurd h
+
+pub refused : (search : SearchTexts) (file : Option (List ℕ)) (octets : List ℕ) (f : Fault)
+    → IfSome file (λ known. octets ≡ known) → SearchedResult search octets (Err f) → PlannedResult search file (Err f)
+refused search None octets f same h = tt
+refused search (Some known) octets f same h =
+    subst (λ (l : List ℕ). ReadNetworkResult search l (Err f)) same (refused_in search octets f h)
+
+-- a question goes to a target in memory
+pub unplanned_in : (search : SearchTexts) (octets : List ℕ) (world : World) (f : Fault)
+    → IsSearchedFile search octets world → PlanResult world (Err f) → ReadNetworkResult search octets (Err f)
+unplanned_in search octets world (Line number) is h = inr (world, is, h)
+unplanned_in search octets world Memory is h = tt
+unplanned_in search octets world f is h = absurd h
+
+pub unplanned : (search : SearchTexts) (file : Option (List ℕ)) (octets : List ℕ) (world : World) (f : Fault)
+    → IfSome file (λ known. octets ≡ known) → IsSearchedFile search octets world → PlanResult world (Err f)
+    → PlannedResult search file (Err f)
+unplanned search None octets world f same is h = tt
+unplanned search (Some known) octets world f same is h =
+    subst (λ (l : List ℕ). ReadNetworkResult search l (Err f)) same (unplanned_in search octets world f is h)
+
+-- ---- what came of it
+
+as_asked : (choice : ChoiceTexts) (search : SearchTexts) (view : View) (octets : List ℕ) (e : NetworkRun)
+    (result : Result Finished Fault) → IsNetworkFile search octets e → AskNetworkResult choice view e result
+    → AskFileResult choice search view octets result
+as_asked choice search view octets e (Ok r) from h = (e, from, h)
+as_asked choice search view octets e (Err (NoQuestion unknown)) from h = (e, from, h)
+as_asked choice search view octets e (Err Memory) from h = tt
+as_asked choice search view octets e (Err f) from h = absurd h
+
+pub asked_file : (choice : ChoiceTexts) (search : SearchTexts) (view : View) (file : Option (List ℕ)) (p : Planned)
+    (result : Result Finished Fault) → IsPlannedOf search file p → AskNetworkResult choice view p.network result
+    → IfSome file (λ octets. AskFileResult choice search view octets result)
+asked_file choice search view None p result planned h = tt
+asked_file choice search view (Some octets) p result planned h = as_asked choice search view octets p.network result
+    (subst (λ (l : List ℕ). IsNetworkFile search l p.network) planned.world planned.network) h
+
+as_unasked : (choice : ChoiceTexts) (search : SearchTexts) (view : View) (octets : List ℕ) (f : Fault)
+    → ReadNetworkResult search octets (Err f) → AskFileResult choice search view octets (Err f)
+as_unasked choice search view octets (Line number) h = h
+as_unasked choice search view octets (Read path) h = tt
+as_unasked choice search view octets Memory h = tt
+as_unasked choice search view octets (Query kind at text) h = h
+as_unasked choice search view octets (Wanted text) h = h
+as_unasked choice search view octets (Syntax text) h = h
+as_unasked choice search view octets f h = absurd h
+
+pub unasked_file : (choice : ChoiceTexts) (search : SearchTexts) (view : View) (file : Option (List ℕ)) (f : Fault)
+    → PlannedResult search file (Err f) → IfSome file (λ octets. AskFileResult choice search view octets (Err f))
+unasked_file choice search view None f h = tt
+unasked_file choice search view (Some octets) f h = as_unasked choice search view octets f h
+
+-- a fault of a file, of its texts, or of its plan
+pub of_file : (path : List ℕ) (f : Fault) → IsOfFile path f → IsOfSearchedWorld path f
+of_file path (Read failed) h = h
+of_file path Memory h = tt
+of_file path f h = absurd h
+
+pub of_texts : (path : List ℕ) (f : Fault) → IsOfTexts f → IsOfSearchedWorld path f
+of_texts path (Line number) h = tt
+of_texts path (Query kind at text) h = tt
+of_texts path (Wanted text) h = tt
+of_texts path (Syntax text) h = tt
+of_texts path Memory h = tt
+of_texts path f h = absurd h
+
+pub of_plan : (path : List ℕ) (world : World) (f : Fault) → PlanResult world (Err f) → IsOfSearchedWorld path f
+of_plan path world (Line number) h = tt
+of_plan path world Memory h = tt
+of_plan path world f h = absurd h
+
+pub of_asking : (path : List ℕ) (f : Fault) → IsOfSearchedWorld path f → IsOfAsking path f
+of_asking path (Read failed) h = h
+of_asking path (Line number) h = tt
+of_asking path (Query kind at text) h = tt
+of_asking path (Wanted text) h = tt
+of_asking path (Syntax text) h = tt
+of_asking path Memory h = tt
+of_asking path f h = absurd h

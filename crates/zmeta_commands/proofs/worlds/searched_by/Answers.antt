@@ -1,0 +1,12 @@
+use Rattle.std.proofs.Common.{sym, subst}
+use Rattle.zmeta_commands.specs.Searches.{search_of}
+use Rattle.zmeta_commands.specs.Worlds.{SearchedResult}
+use Rattle.zmeta_commands.proofs.Asking.{told_as}
+use Rattle.zmeta_commands.proofs.worlds.searched_by.Goals as goal
+
+pub returns-clause-says : goal.returns-clause-says
+returns-clause-says c =
+    let asked = subst (λ s. SearchedResult s c.args.octets.now c.searched_in-answer.result) c.requires.same
+    c.searched_in-answer.ensures.says in
+    subst (λ r. SearchedResult (search_of c.args.search.now) c.args.octets.now r) (sym c.of_options.ensures)
+    (told_as c.args.search.now c.args.octets.now c.searched_in-answer.result asked)

@@ -1,0 +1,3 @@
+pub mod Heads
+pub mod Given
+pub mod Replays
