@@ -87,6 +87,7 @@ fn put_run<'a>(octets: &'a [u8], out: &mut Vec<u8>) -> Result<&'a [u8], AllocErr
 fn put_quoted(octets: &[u8], out: &mut Vec<u8>) -> Result<(), AllocError>
     ensures { OnOk result (out.new.items ≡ out.old.items ++ quoted octets.now) }
 {
+    out.reserve(octets.len())?;
     out.extend_from_slice(b"\"")?;
     let mut rest = octets;
     while !rest.is_empty() {

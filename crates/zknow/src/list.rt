@@ -348,5 +348,10 @@ pub fn print_list(
     let mut text = Vec::new(alloc);
     put_blocks(alloc, names, knowledge.tables(), &mut text)?;
     put_rows(alloc, names, hex, knowledge, &mut text)?;
+    if out.is_empty() {
+        // a list of many records is not copied
+        *out = text;
+        return Ok(());
+    }
     out.extend_from_slice(&text)
 }
