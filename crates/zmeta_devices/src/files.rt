@@ -67,7 +67,7 @@ pub trait Folder {
 #[derive(Drop)]
 pub struct FileDraft {
     file: File,
-    /// The path of the file that is written in place of the one to be made, or `None` if what is at the path is written.
+    /// The path of the file that is written in place of the one to be made. `None` if what is at the path is written.
     beside: Option<String>,
 }
 
@@ -101,7 +101,7 @@ impl Folder for HostRuntime {
         }
     }
 
-    /// The draft is a file beside the path. What is no regular file, as a device, a pipe or a link, is written as it is.
+    /// The draft is a file beside the path. What is no regular file, as a device, a pipe or a link, is written in place.
     fn draft(&self, path: &str) -> io::Result<FileDraft> {
         match is_replaceable(self, path) {
             true => draft_beside(self, path),

@@ -11,7 +11,7 @@ use Rattle.zmeta_explain.specs.declared.syntaxes.NamedSyntax.{NamedSyntax}
 use Rattle.zmeta_explain.specs.declared.syntaxes.NamedSyntax.TheVariants.{Marc21, Unimarc, Xml, Sutrs, Opac, Grs1}
 use Rattle.zmeta_explain.specs.Laws.{IsPrintable, IsOctet, SafeLineLaw}
 use Rattle.zmeta_explain.specs.Lines.{behind_token, next_token, behind_line, defined_in, lines_from, other_quotes, has_mark, is_comment, has_digit, form_of, lower_word, other_keyword_words, keyword_words, meant_field_words, question_words, ask_words, host_words, keyed_words, text_words, line_at, line_words}
-use Rattle.zmeta_explain.specs.Places.{is_space, is_quote, is_feed, is_word, from_first}
+use Rattle.zmeta_explain.specs.Places.{is_space, is_quote, is_feed, is_token_octet, from_first}
 use Rattle.zmeta_explain.specs.Ranges.{is_no_want, want_advice}
 use Rattle.zmeta_explain.specs.Shown.{shown_text}
 use Rattle.zmeta_explain.specs.Syntaxes.{meant_syntax, syntax_oid}
@@ -29,7 +29,7 @@ tail (x ∷ xs) h =
     (λ _. from_octet is_space (x ∷ xs) h)
 
 next : (xs : List ℕ) → All IsOctet xs → All IsOctet (next_token xs)
-next xs h = from_octet is_word (behind_token xs) (tail xs h)
+next xs h = from_octet is_token_octet (behind_token xs) (tail xs h)
 
 lines : (n : ℕ) (w : List ℕ) → All IsOctet w → All IsOctet (lines_from n w)
 lines zero w h = h
@@ -38,7 +38,7 @@ lines (suc n) w h = lines n (behind_line w) (All-drop IsOctet 1 (from_first is_f
 one_line : (world : List ℕ) (n : ℕ) → All IsOctet world → All IsOctet (line_at world n)
 one_line world n h =
     let rest = lines_from (n - 1) world in
-    from_octet is_word (before_first is_feed rest)
+    from_octet is_token_octet (before_first is_feed rest)
     (All-take IsOctet (position_or_len is_feed rest) rest (lines (n - 1) world h))
 
 -- ---- key words

@@ -5,7 +5,7 @@ use Rattle.std.specs.Fmt.{decimal}
 use Rattle.std.specs.List.{before_first}
 use Rattle.std.specs.Str.{str_eq_ignore_ascii_case}
 use Rattle.zmeta_explain.specs.declared.syntaxes.NamedSyntax.{NamedSyntax}
-use Rattle.zmeta_explain.specs.Places.{is_space, is_quote, is_feed, is_word, from_first}
+use Rattle.zmeta_explain.specs.Places.{is_space, is_quote, is_feed, is_token_octet, from_first}
 use Rattle.zmeta_explain.specs.Ranges.{is_no_want, want_advice}
 use Rattle.zmeta_explain.specs.Shown.{shown_text}
 use Rattle.zmeta_explain.specs.Syntaxes.{meant_syntax, syntax_oid}
@@ -20,7 +20,7 @@ behind_token (x ∷ xs) = if is_quote x then drop 1 (from_first is_quote xs) els
 
 -- the text from the second token on
 abbrev pub next_token : List ℕ → List ℕ
-next_token text = from_first is_word (behind_token text)
+next_token text = from_first is_token_octet (behind_token text)
 
 -- ---- lines
 
@@ -34,7 +34,7 @@ gives first name = is_end (token_front first) && bytes_eq (token_front (next_tok
 
 -- a line gives this name to a target or host
 abbrev pub defines : List ℕ → List ℕ → Bool
-defines line name = gives (from_first is_word line) name
+defines line name = gives (from_first is_token_octet line) name
 
 -- what stands behind the first line
 abbrev pub behind_line : List ℕ → List ℕ
@@ -181,7 +181,7 @@ text_words first known =
 
 -- the line of this number, from its first token on
 abbrev pub line_at : List ℕ → ℕ → List ℕ
-line_at world number = from_first is_word (before_first is_feed (lines_from (number - 1) world))
+line_at world number = from_first is_token_octet (before_first is_feed (lines_from (number - 1) world))
 
 -- words for a line, with its number in front
 abbrev pub numbered_words : ℕ → List ℕ → List ℕ

@@ -19,8 +19,8 @@ abbrev pub is_hyphen : ℕ → Bool
 is_hyphen x = x == 0x2D
 
 -- no white space
-abbrev pub is_word : ℕ → Bool
-is_word x = not (is_space x)
+abbrev pub is_token_octet : ℕ → Bool
+is_token_octet x = not (is_space x)
 
 -- what stands from the first such octet on, or nothing
 abbrev pub from_first : (ℕ → Bool) → List ℕ → List ℕ

@@ -1,7 +1,7 @@
 //! Places in a text: what stands before and from the first octet of a kind.
 ghost use Rattle.std.specs.Prelude.{◌≡◌, drop};
 ghost use Rattle.std.specs.List.{before_first, position};
-ghost use Rattle.zmeta_explain.specs.Places.{is_space, is_quote, is_colon, is_feed, is_hyphen, is_word, from_first};
+ghost use Rattle.zmeta_explain.specs.Places.{is_space, is_quote, is_colon, is_feed, is_hyphen, is_token_octet, from_first};
 
 fn is_space(octet: u8) -> bool
     ensures { result ≡ is_space octet }
@@ -34,8 +34,8 @@ fn is_hyphen(octet: u8) -> bool
 }
 
 /// Tells whether the octet is no white space.
-fn is_word(octet: u8) -> bool
-    ensures { result ≡ is_word octet }
+fn is_token_octet(octet: u8) -> bool
+    ensures { result ≡ is_token_octet octet }
 {
     !is_space(octet)
 }
@@ -148,13 +148,13 @@ pub(crate) fn from_feed(text: &[u8]) -> &[u8]
 }
 
 fn word_place(text: &[u8]) -> Option<usize>
-    ensures { result ≡ position is_word text.now }
+    ensures { result ≡ position is_token_octet text.now }
 {
-    text.iter().position(|octet| is_word(*octet))
+    text.iter().position(|octet| is_token_octet(*octet))
 }
 
 pub(crate) fn from_word(text: &[u8]) -> &[u8]
-    ensures { result.now ≡ from_first is_word text.now }
+    ensures { result.now ≡ from_first is_token_octet text.now }
 {
     match word_place(text) {
         Some(place) => text.split_at(place).1,

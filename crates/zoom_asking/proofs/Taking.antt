@@ -7,7 +7,7 @@ use Rattle.zoom_pool.specs.declared.step.Step.{Step}
 use Rattle.zoom_pool.specs.declared.step.Step.TheVariants as steps
 use Rattle.zoom_pool.specs.declared.step.TakeError.{TakeError}
 use Rattle.zoom_pool.specs.Inputs.{Input}
-use Rattle.zoom_pool.specs.Transcripts.{Event, Took, Fed, NextInput, take_result, state_at, IsDone}
+use Rattle.zoom_pool.specs.Transcripts.{Event, Took, Fed, NextInput, take_result, state_at, HasFoundMemory}
 use Rattle.zoom_pool.specs.History.{events_on}
 use Rattle.zoom_pool.specs.PoolSteps.{IsTakeResult, IsStateAt}
 use Rattle.zoom_pool.specs.Laws.{OneTranscript}
@@ -25,7 +25,7 @@ use Rattle.zoom_asking.proofs.Extending.{IsAdded, extended_by, extended_none, ex
 
 -- A take with this result was added, which this relation tells.
 taken_on : OneTranscript → (c : ℕ) (R : Relation) (old new : MetaLinks) (waits : List ℕ)
-    (result : Result Step TakeError) → c < length old.pool.connections → IsDone result → IsTakeResult c old.pool result
+    (result : Result Step TakeError) → c < length old.pool.connections → HasFoundMemory result → IsTakeResult c old.pool result
     → MetaTakeStep c old new
     → ((s : MetaSettings) (question : Question) (events : List Event) → IsNextResult s events result
     → R s question events (Took ∷ events))
@@ -62,7 +62,7 @@ taken_step hearing c old new step lt returned took waits =
 
 -- A take was refused, except for `Memory`.
 pub taken_refusal : OneTranscript → (c : ℕ) (old new : MetaLinks) (e : TakeError) → c < length old.pool.connections
-    → IsDone {A = Step} (Err e) → IsTakeResult c old.pool (Err e) → MetaTakeStep c old new
+    → HasFoundMemory {A = Step} (Err e) → IsTakeResult c old.pool (Err e) → MetaTakeStep c old new
     → (waits : List ℕ) → IsExtended c (IsReceived receipts.Over) old new waits waits
 taken_refusal hearing c old new e lt done returned took waits =
     taken_on hearing c (IsReceived receipts.Over) old new waits (Err e) lt done returned took

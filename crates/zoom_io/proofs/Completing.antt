@@ -11,12 +11,12 @@ use Rattle.zoom_pool.specs.States.{is_stopped}
 use Rattle.zoom_pool.specs.Inputs.{Input, AlreadyStopped, Message, Foreign, Fault, Rest, Nothing}
 use Rattle.zoom_pool.specs.Transcripts.{Transcript, Took, NextInput, take_result, state_at, is_message}
 use Rattle.zoom_pool.specs.History.{History, partial_after}
-use Rattle.zoom_pool.specs.Metas.{MetaLinks, MetaAfterUpTo, MetaTakeStep, settings_of}
+use Rattle.zoom_pool.specs.Metas.{MetaLinks, MetaAfterPartial, MetaTakeStep, settings_of}
 use Rattle.zoom_pool.proofs.Pools.{same_number, up_to_more}
 use Rattle.zoom_io.specs.TalkTraces.{still_partial}
 
 fewer : (q : List Question) (s : MetaSettings) (some more : List ℕ) (h : History) (meta : MetaLinks)
-    → ((c : ℕ) → Contains some c → Contains more c) → MetaAfterUpTo q s some h meta → MetaAfterUpTo q s more h meta
+    → ((c : ℕ) → Contains some c → Contains more c) → MetaAfterPartial q s some h meta → MetaAfterPartial q s more h meta
 fewer q s some more h meta all a = record {
   fit = a.fit;
   askable = a.askable;
@@ -33,8 +33,8 @@ left_out t c partial d e h =
 
 -- A take of the connection completes an earlier one, unless it was stopped before.
 pub took_whole : (c : ℕ) (old new : MetaLinks) → MetaTakeStep c old new → (q : List Question) (s : MetaSettings)
-    (partial : List ℕ) (h : History) (a : MetaAfterUpTo q s (c ∷ partial) h old)
-    → is_stopped (state_at (a.pool.transcript c)) ≡ false → MetaAfterUpTo q s partial ((c, Took) ∷ h) new
+    (partial : List ℕ) (h : History) (a : MetaAfterPartial q s (c ∷ partial) h old)
+    → is_stopped (state_at (a.pool.transcript c)) ≡ false → MetaAfterPartial q s partial ((c, Took) ∷ h) new
 took_whole c old new took q s partial h a going =
     let p : Transcript = a.pool.transcript c in
     let own : (is_stopped (state_at p) || not (c == c)) ≡ false =

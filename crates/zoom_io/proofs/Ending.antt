@@ -14,7 +14,7 @@ use Rattle.zoom_pool.specs.Links.{stop_at}
 use Rattle.zoom_pool.specs.PoolSteps.{IsStateAt}
 use Rattle.zoom_pool.specs.Laws.{OneTranscript, OneInput}
 use Rattle.zoom_pool.specs.History.{History}
-use Rattle.zoom_pool.specs.Metas.{MetaLinks, MetaAfterUpTo, MetaRecorded, MetaTakeStep}
+use Rattle.zoom_pool.specs.Metas.{MetaLinks, MetaAfterPartial, MetaRecorded, MetaTakeStep}
 use Rattle.zoom_pool.proofs.Metas.{state_tells}
 use Rattle.zoom_pool.proofs.MetaTakes.{took_within}
 use Rattle.zoom_io.specs.declared.conversation.TalkError.TheVariants as errors
@@ -383,7 +383,7 @@ pub goes_ended : OneInput → (c : ℕ) (old mid new : MetaLinks) → MetaRecord
     → MetaTakeStep c mid new → TalkStepAlone c Waiting Ended old new
 goes_ended meeting c old mid new recorded took left held = record {
   on = λ q s partial h n source sink t.
-      let a : MetaAfterUpTo q s partial ((c, InputEnded) ∷ (t.more ++ h)) mid = recorded q s partial (t.more ++ h) t.known.0 in
+      let a : MetaAfterPartial q s partial ((c, InputEnded) ∷ (t.more ++ h)) mid = recorded q s partial (t.more ++ h) t.known.0 in
       record {
         more = (c, Took) ∷ (c, InputEnded) ∷ t.more;
         read = t.read;

@@ -9,7 +9,7 @@ use Rattle.zorigin.specs.declared.refusal.CallRefused.{CallRefused}
 use Rattle.zorigin.specs.declared.refusal.Refused.{Refused}
 use Rattle.zorigin.specs.declared.state.State.TheVariants as origins
 use Rattle.zorigin.specs.Standings.{Call, ready}
-use Rattle.zorigin.specs.Changes.{force_in}
+use Rattle.zorigin.specs.Changes.{options_in_force}
 use Rattle.zorigin.specs.Calls.{refusal}
 use Rattle.zorigin.specs.Log.{Made, Past, past, standing, admit_unless, opening, is_close_call, is_init_call, state_by, closing_state, state_from, state_of}
 use Rattle.zoom_questions.specs.declared.question.Question.{Question}
@@ -27,9 +27,9 @@ going_by : (a x : Bool) (reply : Apdu) → is_stopped (state_as (closing_state a
     → is_stopped (state_as (closing_state x (state_by reply))) ≡ false
 going_by a x (apdus.InitRequest v) f = absurd (true≢false f)
 going_by a x (apdus.InitResponse v) f =
-    elim v.result as (λ b. is_stopped (state_as (closing_state a (cond b (ready (force_in v)) origins.Closed))) ≡ false
-    → is_stopped (state_as (closing_state x (cond b (ready (force_in v)) origins.Closed))) ≡ false) [
-      | true ↦ λ g. elim x as (λ z. is_stopped (state_as (closing_state z (ready (force_in v)))) ≡ false)
+    elim v.result as (λ b. is_stopped (state_as (closing_state a (cond b (ready (options_in_force v)) origins.Closed))) ≡ false
+    → is_stopped (state_as (closing_state x (cond b (ready (options_in_force v)) origins.Closed))) ≡ false) [
+      | true ↦ λ g. elim x as (λ z. is_stopped (state_as (closing_state z (ready (options_in_force v)))) ≡ false)
           [ true ↦ refl | false ↦ refl ]
       | false ↦ λ g. absurd (true≢false g)
     ] f

@@ -8,6 +8,6 @@ pub mod Ending
 pub mod LastClose
 pub mod Answering
 pub mod AnswerEnds
-pub mod Apart
+pub mod OneConnection
 pub mod Others
 pub mod Blameless

@@ -9,7 +9,7 @@ use Rattle.zoom_pool.specs.declared.state.Reason.TheVariants as reasons
 use Rattle.zoom_pool.specs.Transcripts.{IsTranscript, HandedOut, Stopped, past_of, given, is_lost, sent}
 use Rattle.zoom_pool.specs.History.{History, events_on}
 use Rattle.zoom_pool.specs.Laws.{OneTranscript}
-use Rattle.zoom_pool.specs.Metas.{MetaLinks, MetaAfterUpTo, MetaRecorded, DriveResult, CompleteDrive, call_events, settings_of}
+use Rattle.zoom_pool.specs.Metas.{MetaLinks, MetaAfterPartial, MetaRecorded, DriveResult, CompleteDrive, call_events, settings_of}
 use Rattle.zoom_io.specs.Devices.{DeviceState, HasAppendedFront, HasFailed}
 use Rattle.zoom_io.specs.declared.outgoing.PushError.{PushError}
 use Rattle.zoom_io.specs.declared.outgoing.PushError.TheVariants as pushes
@@ -28,7 +28,7 @@ use Rattle.zoom_io.proofs.Starving.{halts_unhanded, halts_after, halted_many}
 
 -- Handing out what waits leaves everything sent handed out.
 pub all_handed_out : OneTranscript → (q : List Question) (s : MetaSettings) (partial : List ℕ) (c : ℕ) (h : History) (meta : MetaLinks)
-    → c < length meta.pool.connections → MetaAfterUpTo q s partial h meta → IsAllHandedOut s c ((c, HandedOut (waiting_at meta.pool c)) ∷ h)
+    → c < length meta.pool.connections → MetaAfterPartial q s partial h meta → IsAllHandedOut s c ((c, HandedOut (waiting_at meta.pool c)) ∷ h)
 all_handed_out hearing q s partial c h meta lt a p transcript kept =
     let waiting : List ℕ = waiting_at meta.pool c in
     let mine = only_same c (HandedOut waiting) h in
@@ -45,10 +45,10 @@ module _ (hearing : OneTranscript) (E : Type 0) (c n : ℕ) (old mid new : MetaL
   where
     -- The history with the calls and the octets handed out.
     spoken : (q : List Question) (s : MetaSettings) (partial : List ℕ) (h more : History) (calls : List Call) (octets : List ℕ)
-        → MetaAfterUpTo q s partial ((c, HandedOut octets) ∷ (call_events c calls ++ (more ++ h))) new
-        → MetaAfterUpTo q s partial ((c, HandedOut octets) ∷ (call_events c calls ++ more) ++ h) new
+        → MetaAfterPartial q s partial ((c, HandedOut octets) ∷ (call_events c calls ++ (more ++ h))) new
+        → MetaAfterPartial q s partial ((c, HandedOut octets) ∷ (call_events c calls ++ more) ++ h) new
     spoken q s partial h more calls octets a =
-        subst (λ z. MetaAfterUpTo q s partial ((c, HandedOut octets) ∷ z) new) (sym (append_assoc (call_events c calls) more h)) a
+        subst (λ z. MetaAfterPartial q s partial ((c, HandedOut octets) ∷ z) new) (sym (append_assoc (call_events c calls) more h)) a
 
     abbrev octets : List ℕ
     octets = waiting_at mid.pool c
@@ -98,7 +98,7 @@ module _ (hearing : OneTranscript) (E : Type 0) (c n : ℕ) (old mid new : MetaL
             octets = octets;
             trace = due_sent calls octets t.trace
                 (λ question p asks transcript. (d.rests question p asks transcript, d.tried p transcript)) all;
-            known = subst (λ z. MetaAfterUpTo q s partial ((c, Stopped reasons.Write) ∷ (c, HandedOut octets) ∷ z) new)
+            known = subst (λ z. MetaAfterPartial q s partial ((c, Stopped reasons.Write) ∷ (c, HandedOut octets) ∷ z) new)
                 (sym (append_assoc (call_events c calls) t.more h))
                 (write_failed_after q s partial (call_events c calls ++ (t.more ++ h)) d.progress.after);
             consumed = t.consumed;
@@ -139,7 +139,7 @@ breaks_after c from a b d k k2 k3 one off = record {
 pub record Begun
     (c reads : ℕ) (stage : Stage) (old new : MetaLinks) (source left sink held : DeviceState)
     : Type 0 where
-  pub on : (q : List Question) (s : MetaSettings) (partial : List ℕ) (h : History) → MetaAfterUpTo q s partial h old
+  pub on : (q : List Question) (s : MetaSettings) (partial : List ℕ) (h : History) → MetaAfterPartial q s partial h old
       → Talk q s partial c h reads stage new source left sink held
   pub reader : left.failures ≡ source.failures
   pub writer : held.failures ≡ sink.failures
@@ -170,7 +170,7 @@ begun_on c n from to f a b d l l2 l3 k k2 k3 one two = record {
 -- A take of the connection found no memory before the talk. Before the first read no take was made since, or one was,
 -- and has completed it.
 pub record BegunPartial (c reads : ℕ) (old new : MetaLinks) (source left sink held : DeviceState) : Type 0 where
-  pub on : (q : List Question) (s : MetaSettings) (partial : List ℕ) (h : History) → MetaAfterUpTo q s (c ∷ partial) h old
+  pub on : (q : List Question) (s : MetaSettings) (partial : List ℕ) (h : History) → MetaAfterPartial q s (c ∷ partial) h old
       → ((reads ≡ 0) × (t : Talk q s (c ∷ partial) c h reads Due new source left sink held) × (take_count t.more ≡ 0))
       ⊎ ((0 < reads) × Talk q s partial c h reads Due new source left sink held)
 
@@ -195,7 +195,7 @@ begun_partial c m source sink = record {
 pub record BegunWhole
     (c reads : ℕ) (stage : Stage) (old new : MetaLinks) (source left sink held : DeviceState)
     : Type 0 where
-  pub on : (q : List Question) (s : MetaSettings) (partial : List ℕ) (h : History) → MetaAfterUpTo q s (c ∷ partial) h old
+  pub on : (q : List Question) (s : MetaSettings) (partial : List ℕ) (h : History) → MetaAfterPartial q s (c ∷ partial) h old
       → Talk q s partial c h reads stage new source left sink held
 
 -- ---- messages are taken

@@ -7,13 +7,13 @@ use Rattle.zoom_questions.specs.declared.question.Question.{Question}
 use Rattle.zoom_questions.specs.declared.question.MetaSettings.{MetaSettings}
 use Rattle.zoom_pool.specs.Transcripts.{InputEnded}
 use Rattle.zoom_pool.specs.History.{History}
-use Rattle.zoom_pool.specs.Metas.{MetaLinks, MetaAfterUpTo, MetaRecorded, MetaIncompleteTake, DriveResult, CompleteDrive, Progress, call_events}
+use Rattle.zoom_pool.specs.Metas.{MetaLinks, MetaAfterPartial, MetaRecorded, MetaIncompleteTake, DriveResult, CompleteDrive, Progress, call_events}
 use Rattle.zoom_pool.proofs.MetaTakes.{more_partial}
 use Rattle.zoom_pool.proofs.Pools.{only_other}
 use Rattle.zoom_io.specs.Devices.{DeviceState}
 use Rattle.zoom_io.specs.TalkTraces.{Stage, Due, Listening, Waiting, Talk, TalkStep, StarvedTalkEvents, uncalled, unhanded, untaken, unfed, unended, too_many, HaltedTalk, HaltStep, take_count, same}
 use Rattle.zoom_io.specs.TalkSteps.{HaltStepAlone}
-use Rattle.zoom_io.proofs.Apart.{none_both, others_made, others_follow}
+use Rattle.zoom_io.proofs.OneConnection.{none_both, others_made, others_follow}
 
 -- ---- the calls that are due
 
@@ -22,13 +22,13 @@ module _ (c : ℕ) (new : MetaLinks) (left held : DeviceState) (q : List Questio
   where
     -- These calls were made.
     halted_called : (old : MetaLinks) (t : Talk q s partial c h n Due old source left sink held) (calls : List Call)
-        → MetaAfterUpTo q s partial (call_events c calls ++ (t.more ++ h)) new
+        → MetaAfterPartial q s partial (call_events c calls ++ (t.more ++ h)) new
         → StarvedTalkEvents q s partial c h left partial (call_events c calls ++ t.more) t.read t.written n
         → HaltedTalk q s partial c h n new source left sink held
     halted_called old t calls a starves =
         let all : History = call_events c calls ++ t.more in
-        let b : MetaAfterUpTo q s partial (all ++ h) new =
-        subst (λ z. MetaAfterUpTo q s partial z new) (sym (append_assoc (call_events c calls) t.more h)) a in
+        let b : MetaAfterPartial q s partial (all ++ h) new =
+        subst (λ z. MetaAfterPartial q s partial z new) (sym (append_assoc (call_events c calls) t.more h)) a in
         record {
           more = all;
           others = λ i far.
@@ -78,7 +78,7 @@ halts_unhanded E c n old mid new drove e left held q s partial h reads source si
     let d : CompleteDrive q s partial c (t.more ++ h) n mid = drove q s partial (t.more ++ h) t.known.0 in
     let calls = d.progress.calls in
     halted_called c new left held q s partial h reads source sink old t calls
-    (subst (MetaAfterUpTo q s partial (call_events c calls ++ (t.more ++ h))) (sym e) d.progress.after)
+    (subst (MetaAfterPartial q s partial (call_events c calls ++ (t.more ++ h))) (sym e) d.progress.after)
     (unhanded calls t.trace (λ question p asks transcript. (d.rests question p asks transcript, d.tried p transcript)))
 
 -- ---- takes
@@ -128,8 +128,8 @@ pub halts_unfed : (c : ℕ) (old new : MetaLinks) (piece : List ℕ) (l l2 : Dev
     → Consumes l.octets l2.octets piece → 0 < length piece → length piece ≤ 4096
     → (held : DeviceState) → HaltStep c Waiting suc old new l l2 held held
 halts_unfed c old new piece l l2 e consumed some few held q s partial h n source sink t =
-    let a : MetaAfterUpTo q s partial (t.more ++ h) new =
-    subst (MetaAfterUpTo q s partial (t.more ++ h)) (sym e) t.known.0 in
+    let a : MetaAfterPartial q s partial (t.more ++ h) new =
+    subst (MetaAfterPartial q s partial (t.more ++ h)) (sym e) t.known.0 in
     record {
       more = t.more;
       others = λ i far. others_follow i t.trace far;

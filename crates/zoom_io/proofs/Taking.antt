@@ -16,11 +16,11 @@ use Rattle.zoom_pool.specs.declared.step.TakeError.{TakeError}
 use Rattle.zoom_pool.specs.declared.step.TakeError.TheVariants as errors
 use Rattle.zoom_pool.specs.States.{is_stopped, is_closing}
 use Rattle.zoom_pool.specs.Inputs.{Input, AlreadyStopped, Message, Foreign, Fault, Rest, Nothing}
-use Rattle.zoom_pool.specs.Transcripts.{Transcript, IsTranscript, Took, InputEnded, NextInput, take_result, take_result_of_verdict, after_take, after_reply, after_stop, end_by, truncated, state_at, past_of, is_message, IsDone}
+use Rattle.zoom_pool.specs.Transcripts.{Transcript, IsTranscript, Took, InputEnded, NextInput, take_result, take_result_of_verdict, after_take, after_reply, after_stop, end_by, truncated, state_at, past_of, is_message, HasFoundMemory}
 use Rattle.zoom_pool.specs.History.{History, events_on}
 use Rattle.zoom_pool.specs.PoolSteps.{IsTakeResult}
 use Rattle.zoom_pool.specs.Laws.{OneInput, OneTranscript}
-use Rattle.zoom_pool.specs.Metas.{MetaLinks, MetaAfterUpTo, MetaTakeStep, settings_of}
+use Rattle.zoom_pool.specs.Metas.{MetaLinks, MetaAfterPartial, MetaTakeStep, settings_of}
 use Rattle.zoom_pool.proofs.Pools.{only_same}
 use Rattle.zoom_pool.proofs.Metas.{transcript_at}
 use Rattle.zoom_pool.proofs.MetaTakes.{took_within}
@@ -155,10 +155,10 @@ ends_stopped meeting (input_end f) is = absurd cc
 -- ---- what a take returns
 
 module _ (hearing : OneTranscript) (meeting : OneInput) (c : ℕ) (old new : MetaLinks)
-    (lt : c < length old.pool.connections) (answer : Result Step TakeError) (done : IsDone answer)
+    (lt : c < length old.pool.connections) (answer : Result Step TakeError) (done : HasFoundMemory answer)
     (is_answer : IsTakeResult c old.pool answer) (took : MetaTakeStep c old new)
   where
-    answered : (q : List Question) (s : MetaSettings) (partial : List ℕ) (h : History) → MetaAfterUpTo q s partial h old
+    answered : (q : List Question) (s : MetaSettings) (partial : List ℕ) (h : History) → MetaAfterPartial q s partial h old
         → (p : Transcript) → IsTranscript (settings_of s) (events_on c h) p → (input : Input) × NextInput p input × (answer ≡ take_result p input)
     answered q s partial h a p transcript =
         let now = transcript_at (settings_of s) h a.pool.transcript old.pool.connections c a.pool.stands lt in
@@ -166,7 +166,7 @@ module _ (hearing : OneTranscript) (meeting : OneInput) (c : ℕ) (old new : Met
         subst (λ z. (input : Input) × NextInput z input × (answer ≡ take_result z input)) is
         (is_answer (settings_of s) partial h a.pool done)
 
-    stopped_after : IsLast answer → (q : List Question) (s : MetaSettings) (partial : List ℕ) (h : History) → MetaAfterUpTo q s partial h old
+    stopped_after : IsLast answer → (q : List Question) (s : MetaSettings) (partial : List ℕ) (h : History) → MetaAfterPartial q s partial h old
         → IsStoppedAt s c ((c, Took) ∷ h)
     stopped_after last q s partial h a p transcript =
         let then = subst (λ z. IsTranscript (settings_of s) z p) (only_same c Took h) transcript in
@@ -179,19 +179,19 @@ module _ (hearing : OneTranscript) (meeting : OneInput) (c : ℕ) (old new : Met
 
     -- The connection was neither Closed nor Failed before a take that did not find it so.
     lively : IsLive answer → (q : List Question) (s : MetaSettings) (partial : List ℕ) (h : History)
-        (a : MetaAfterUpTo q s partial h old) → is_stopped (state_at (a.pool.transcript c)) ≡ false
+        (a : MetaAfterPartial q s partial h old) → is_stopped (state_at (a.pool.transcript c)) ≡ false
     lively live q s partial h a =
         let t = is_answer (settings_of s) partial h a.pool done in
         live_going (a.pool.transcript c) t.0 t.1 (subst IsLive t.2 live)
 
     goes : (to : Stage)
-        → ((q : List Question) (s : MetaSettings) (partial : List ℕ) (h : History) → MetaAfterUpTo q s partial h old
+        → ((q : List Question) (s : MetaSettings) (partial : List ℕ) (h : History) → MetaAfterPartial q s partial h old
         → IsAtStage to s c ((c, Took) ∷ h))
         → ((q : List Question) (s : MetaSettings) (partial : List ℕ) (h more : History) (read written : List ℕ) (reads : ℕ)
-        → MetaAfterUpTo q s partial (more ++ h) old → TalkTrace q s c h more read written reads Listening
+        → MetaAfterPartial q s partial (more ++ h) old → TalkTrace q s c h more read written reads Listening
         → TalkTrace q s c h ((c, Took) ∷ more) read written reads to)
         → ((q : List Question) (s : MetaSettings) (partial : List ℕ) (h more : History) (read written : List ℕ) (reads : ℕ)
-        (a : MetaAfterUpTo q s partial (more ++ h) old) → TalkTrace q s c h more read written reads Listening
+        (a : MetaAfterPartial q s partial (more ++ h) old) → TalkTrace q s c h more read written reads Listening
         → take_count more ≡ 0 → IsGoingBefore to s c h → is_stopped (state_at (a.pool.transcript c)) ≡ false)
         → (left held : DeviceState) → TakingStep c Listening to old new left held held
     goes to stands trace goes_on left held = record {
@@ -233,7 +233,7 @@ module _ (hearing : OneTranscript) (meeting : OneInput) (c : ℕ) (old new : Met
         (λ q s partial h more read written reads a f none going. going_until f none going (a.pool.transcript c)
         (transcript_at (settings_of s) (more ++ h) a.pool.transcript old.pool.connections c a.pool.stands lt))
 
-    next_step : (step : Step) → answer ≡ Ok step → (q : List Question) (s : MetaSettings) (partial : List ℕ) (h : History) → MetaAfterUpTo q s partial h old
+    next_step : (step : Step) → answer ≡ Ok step → (q : List Question) (s : MetaSettings) (partial : List ℕ) (h : History) → MetaAfterPartial q s partial h old
         → IsNextStep s c h step
     next_step step is q s partial h a p transcript = let t = answered q s partial h a p transcript in (t.0, t.1, sym t.2 ∙ is)
 
@@ -272,6 +272,6 @@ taken_step hearing meeting c old new lt steps.Stopped a t =
 
 -- A take that was refused, except for `Memory`.
 pub taken_refusal : OneTranscript → OneInput → (c : ℕ) (old new : MetaLinks) → c < length old.pool.connections
-    → (e : TakeError) → IsDone {A = Step} (Err e) → IsTakeResult c old.pool (Err e) → MetaTakeStep c old new
+    → (e : TakeError) → HasFoundMemory {A = Step} (Err e) → IsTakeResult c old.pool (Err e) → MetaTakeStep c old new
     → AfterTakeMessage c receipts.Over old new
 taken_refusal hearing meeting c old new lt e done a t = over hearing meeting c old new lt (Err e) done a t tt

@@ -7,7 +7,7 @@ use Rattle.zoom_pool.specs.declared.state.Reason.TheVariants as reasons
 use Rattle.zoom_pool.specs.Transcripts.{HandedOut, Stopped}
 use Rattle.zoom_pool.specs.History.{History}
 use Rattle.zoom_pool.specs.Links.{waiting_at, stop_at}
-use Rattle.zoom_pool.specs.Metas.{MetaLinks, MetaAfterUpTo, MetaRecorded}
+use Rattle.zoom_pool.specs.Metas.{MetaLinks, MetaAfterPartial, MetaRecorded}
 use Rattle.zoom_io.specs.Devices.{DeviceState, HasAppendedFront, HasFailed}
 use Rattle.zoom_io.specs.declared.outgoing.PushError.{PushError}
 use Rattle.zoom_io.specs.declared.outgoing.PushError.TheVariants as errors
@@ -17,8 +17,8 @@ use Rattle.std.specs.Io.KnownBytes.{Appends}
 abbrev pub MetaWriteFailed : ℕ → List ℕ → MetaLinks → MetaLinks → Type 0
 MetaWriteFailed c octets old new =
     (questions : List Question) (s : MetaSettings) (partial : List ℕ) (h : History)
-    → MetaAfterUpTo questions s partial h old
-    → MetaAfterUpTo questions s partial ((c, Stopped reasons.Write) ∷ (c, HandedOut octets) ∷ h) new
+    → MetaAfterPartial questions s partial h old
+    → MetaAfterPartial questions s partial ((c, Stopped reasons.Write) ∷ (c, HandedOut octets) ∷ h) new
 
 -- After a push: all that waited was written; a write failed after a front of it; or no memory was found, and nothing
 -- changed.

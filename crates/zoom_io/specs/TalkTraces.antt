@@ -16,7 +16,7 @@ use Rattle.zoom_pool.specs.Transcripts.{Transcript, IsTranscript, Fed, Took, Inp
 use Rattle.zoom_pool.specs.History.{History, events_on}
 use Rattle.zoom_pool.specs.Links.{stop_at}
 use Rattle.zoom_pool.specs.Steering.{errand_of}
-use Rattle.zoom_pool.specs.Metas.{MetaLinks, MetaAfterUpTo, IsIdleUnlessStopped, IsSearchTried, call_events, settings_of}
+use Rattle.zoom_pool.specs.Metas.{MetaLinks, MetaAfterPartial, IsIdleUnlessStopped, IsSearchTried, call_events, settings_of}
 use Rattle.zoom_io.specs.Devices.{DeviceState, HasAppendedFront, HasFailed, HasNoFailure}
 use Rattle.zoom_io.specs.declared.conversation.TalkError.{TalkError}
 use Rattle.zoom_io.specs.declared.conversation.TalkError.TheVariants as errors
@@ -133,7 +133,7 @@ pub record TalkOf
 -- The history can have left these connections, and the stage stands for connection c. Before the talk, takes of the
 -- connections `partial` may have found no memory.
 abbrev pub HasLeft : List Question → MetaSettings → List ℕ → ℕ → Stage → MetaLinks → History → Type 0
-HasLeft questions s partial c stage meta h = MetaAfterUpTo questions s partial h meta × IsAtStage stage s c h
+HasLeft questions s partial c stage meta h = MetaAfterPartial questions s partial h meta × IsAtStage stage s c h
 
 -- A talk so far, and the pool it has left.
 abbrev pub Talk
@@ -208,8 +208,9 @@ pub record HaltedTalk
     : Type 0 where
   pub more : History
   pub others : (i : ℕ) → (c == i) ≡ false → events_on i more ≡ []
-  pub after : MetaAfterUpTo questions s (c ∷ partial) (more ++ h) new
-  pub talk : StarvedTalk (λ then_partial k. MetaAfterUpTo questions s then_partial k new) questions s partial c h more
+  pub after : MetaAfterPartial questions s (c ∷ partial) (more ++ h) new
+  pub talk : StarvedTalk (λ then_partial k. MetaAfterPartial questions s then_partial k new) questions s
+      partial c h more
       reads source left sink held
 
 -- The talk halts, after every talk at this stage.
@@ -228,9 +229,9 @@ pub record OutOfMemory
     : Type 0 where
   pub more : History
   pub others : (i : ℕ) → (c == i) ≡ false → events_on i more ≡ []
-  pub after : MetaAfterUpTo questions s (c ∷ partial) ((c, Stopped reasons.Memory) ∷ (more ++ h)) new
+  pub after : MetaAfterPartial questions s (c ∷ partial) ((c, Stopped reasons.Memory) ∷ (more ++ h)) new
   pub talk : StarvedTalk
-      (λ then_partial k. MetaAfterUpTo questions s then_partial ((c, Stopped reasons.Memory) ∷ k) new)
+      (λ then_partial k. MetaAfterPartial questions s then_partial ((c, Stopped reasons.Memory) ∷ k) new)
       questions s partial c h more reads source left sink held
 
 -- ---- a take is completed
@@ -262,7 +263,7 @@ abbrev pub HasStopped
     : List Question → MetaSettings → List ℕ → ℕ → Stage → Reason → MetaLinks → History → Type 0
 HasStopped questions s partial c stage reason new h =
     ((meta : MetaLinks) × HasLeft questions s partial c stage meta h)
-    × MetaAfterUpTo questions s partial ((c, Stopped reason) ∷ h) new
+    × MetaAfterPartial questions s partial ((c, Stopped reason) ∷ h) new
 
 -- The talk reached this stage, and the caller then stopped the connection for this reason.
 abbrev pub StoppedTalk
@@ -292,7 +293,7 @@ abbrev pub BrokenTalk
     : List Question → MetaSettings → List ℕ → ℕ → History → ℕ → MetaLinks → DeviceState → DeviceState → DeviceState
     → DeviceState → Type 0
 BrokenTalk questions s partial c h reads new source left sink held =
-    BrokenTalkOf (λ k. MetaAfterUpTo questions s partial ((c, Stopped reasons.Write) ∷ k) new) questions s c h reads
+    BrokenTalkOf (λ k. MetaAfterPartial questions s partial ((c, Stopped reasons.Write) ∷ k) new) questions s c h reads
     source left sink held
 
 -- How a talk ended by itself after n reads that gave octets, of at most `turns`. Over: the connection is Closed or
@@ -393,10 +394,10 @@ pub record AfterTalk
     (c turns : ℕ) (result : Result (Unit {0}) TalkError) (old new : MetaLinks) (source left sink held : DeviceState)
     : Type 0 where
   pub on : (questions : List Question) (s : MetaSettings) (partial : List ℕ) (h : History)
-      → MetaAfterUpTo questions s partial h old
+      → MetaAfterPartial questions s partial h old
       → TalkResult questions s partial c h turns result new source left sink held
   pub whole : (questions : List Question) (s : MetaSettings) (partial : List ℕ) (h : History)
-      → MetaAfterUpTo questions s (c ∷ partial) h old
+      → MetaAfterPartial questions s (c ∷ partial) h old
       → CompletedResult questions s partial c h turns result new source left sink held
   pub blamed : IsErrorOf result source left sink held
   pub stopped : IsStoppedFor c result new

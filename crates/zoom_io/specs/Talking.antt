@@ -8,7 +8,7 @@ use Rattle.zoom_pool.specs.declared.state.Reason.TheVariants as reasons
 use Rattle.zoom_pool.specs.Transcripts.{Stopped, state_at}
 use Rattle.zoom_pool.specs.Links.{stop_at}
 use Rattle.zoom_pool.specs.History.{History}
-use Rattle.zoom_pool.specs.Metas.{MetaLinks, MetaAfterUpTo, MetaRecorded, IsTranscriptValueUpTo}
+use Rattle.zoom_pool.specs.Metas.{MetaLinks, MetaAfterPartial, MetaRecorded, IsTranscriptValueUpTo}
 use Rattle.zoom_io.specs.declared.outgoing.PushError.{PushError}
 use Rattle.zoom_io.specs.declared.outgoing.PushError.TheVariants as pushes
 use Rattle.zoom_io.specs.declared.conversation.TalkError.{TalkError}
@@ -93,10 +93,10 @@ pub record AfterConverse
     (c turns : ℕ) (result : Result (Unit {0}) TalkError) (old new : MetaLinks) (source left sink held : DeviceState)
     : Type 0 where
   pub on : (questions : List Question) (s : MetaSettings) (partial : List ℕ) (h : History)
-      → MetaAfterUpTo questions s partial h old
+      → MetaAfterPartial questions s partial h old
       → ConverseResult questions s partial c h turns result new source left sink held
   pub whole : (questions : List Question) (s : MetaSettings) (partial : List ℕ) (h : History)
-      → MetaAfterUpTo questions s (c ∷ partial) h old
+      → MetaAfterPartial questions s (c ∷ partial) h old
       → CompletedConverse questions s partial c h turns result new source left sink held
   pub blamed : IsErrorOf result source left sink held
   pub stopped : IsStoppedUnlessHalted c result new

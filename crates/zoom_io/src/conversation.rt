@@ -66,7 +66,7 @@ impl From<PushError> for TalkError {
 fn settle<W: Sink>(alloc: Global, meta: &mut Meta, c: u32, sink: &mut W) -> Result<bool, PushError>
     requires { c < length meta.old.pool.connections }
     ensures settles { AfterSettle c result meta.old meta.new (W.state sink.old) (W.state sink.new) }
-    ensures sound { IfPushMemory result (HasNoFailure (W.state sink.old) (W.state sink.new)) }
+    ensures no_failure { IfPushMemory result (HasNoFailure (W.state sink.old) (W.state sink.new)) }
     ensures stopped { IsBroken c result meta.new }
     ensures others { SameOthers c meta.old.pool meta.new.pool }
 {
@@ -85,7 +85,7 @@ fn settle<W: Sink>(alloc: Global, meta: &mut Meta, c: u32, sink: &mut W) -> Resu
 fn listen<R: Source>(meta: &mut Meta, c: u32, source: &mut R) -> Result<bool, TalkError>
     requires { c < length meta.old.pool.connections }
     ensures listens { AfterListen c result meta.old meta.new (R.state source.old) (R.state source.new) }
-    ensures sound { IfTalkMemory result (HasNoFailure (R.state source.old) (R.state source.new)) }
+    ensures no_failure { IfTalkMemory result (HasNoFailure (R.state source.old) (R.state source.new)) }
     ensures others { SameOthers c meta.old.pool meta.new.pool }
 {
     let mut piece = [0u8; PIECE];
@@ -160,7 +160,7 @@ fn converse<R: Source, W: Sink>(
     requires { c < length meta.old.pool.connections }
     ensures talks { AfterConverse c turns result meta.old meta.new (R.state source.old) (R.state source.new)
         (W.state sink.old) (W.state sink.new) }
-    ensures sound { IfTalkMemory result (HasNoFailure (R.state source.old) (R.state source.new)
+    ensures no_failure { IfTalkMemory result (HasNoFailure (R.state source.old) (R.state source.new)
         × HasNoFailure (W.state sink.old) (W.state sink.new)) }
     ensures others { SameOthers c meta.old.pool meta.new.pool }
 {
@@ -217,7 +217,7 @@ pub fn talk<R: Source, W: Sink>(
     requires { c < length meta.old.pool.connections }
     ensures talks { AfterTalk c turns result meta.old meta.new (R.state source.old) (R.state source.new)
         (W.state sink.old) (W.state sink.new) }
-    ensures sound { IfTalkMemory result (HasNoFailure (R.state source.old) (R.state source.new)
+    ensures no_failure { IfTalkMemory result (HasNoFailure (R.state source.old) (R.state source.new)
         × HasNoFailure (W.state sink.old) (W.state sink.new)) }
     ensures stopped { IfErr result (λ e. stop_at meta.new.pool c ≡ Some (states.Failed (reason_of e))) }
     ensures others { SameOthers c meta.old.pool meta.new.pool }

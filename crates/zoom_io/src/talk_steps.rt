@@ -57,7 +57,7 @@ fn take_message(meta: &mut Meta, c: u32) -> Result<Receipt, AllocError>
 fn send_due<W: Sink>(alloc: Global, meta: &mut Meta, c: u32, sink: &mut W) -> Result<(), PushError>
     requires { c < length meta.old.pool.connections }
     ensures after { AfterSendDue c result meta.old meta.new (W.state sink.old) (W.state sink.new) }
-    ensures sound { IfPushMemory result (HasNoFailure (W.state sink.old) (W.state sink.new)) }
+    ensures no_failure { IfPushMemory result (HasNoFailure (W.state sink.old) (W.state sink.new)) }
     ensures stopped { IsBroken c result meta.new }
     ensures others { SameOthers c meta.old.pool meta.new.pool }
 {
@@ -75,7 +75,7 @@ pub(crate) fn send_and_take<W: Sink>(
 ) -> Result<Receipt, PushError>
     requires { c < length meta.old.pool.connections }
     ensures receipt { AfterSendAndTake c result meta.old meta.new (W.state sink.old) (W.state sink.new) }
-    ensures sound { IfPushMemory result (HasNoFailure (W.state sink.old) (W.state sink.new)) }
+    ensures no_failure { IfPushMemory result (HasNoFailure (W.state sink.old) (W.state sink.new)) }
     ensures stopped { IsBroken c result meta.new }
     ensures others { SameOthers c meta.old.pool meta.new.pool }
 {

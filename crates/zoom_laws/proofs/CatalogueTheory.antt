@@ -3,6 +3,6 @@ pub mod Sent
 pub mod Standings
 pub mod Members
 pub mod Presents
-pub mod Replied
-pub mod Brought
+pub mod OperationReplies
+pub mod CompleteFacts
 pub mod Skipped

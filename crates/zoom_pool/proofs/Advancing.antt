@@ -24,12 +24,12 @@ use Rattle.zoom_pool.specs.CallsOf.{call_of}
 use Rattle.zoom_pool.specs.States.{state_as, or_else, is_stopped}
 use Rattle.zoom_pool.specs.Transcripts.{Transcript, IsTranscript, Event, Called, after_call, connection_call_result, dropped, past_of, state_at}
 use Rattle.zoom_pool.specs.Links.{Link, Links}
-use Rattle.zoom_pool.specs.History.{History, events_on, AfterUpTo}
+use Rattle.zoom_pool.specs.History.{History, events_on, AfterPartial}
 use Rattle.zoom_pool.specs.PoolSteps.{Recorded, IsStateAt, IsCallResult, IsPoolFinished}
 use Rattle.zoom_pool.specs.Laws.{OneTranscript}
 use Rattle.zoom_pool.specs.Steering.{Errand, errand_of}
 use Rattle.zoom_pool.specs.Drivers.{DriverState, IsDriver, SameDriver, IsOffer, IsIdleLog, NextCallResult, NoteSentStep, NoteRefusedStep}
-use Rattle.zoom_pool.specs.Metas.{MetaLinks, settings_of, AreDriven, MetaAfterUpTo, call_events, Progress, CompleteDrive}
+use Rattle.zoom_pool.specs.Metas.{MetaLinks, settings_of, AreDriven, MetaAfterPartial, call_events, Progress, CompleteDrive}
 use Rattle.zoom_pool.specs.Metas.{left_of, left_at, IsGivenCall, AdvanceResultAt, AdvanceResult, IssueResult, DriveResult}
 use Rattle.zoom_pool.specs.Metas.{IsTranscriptValue, IsTranscriptValueUpTo, is_skipped, is_complete, IsFinished, IsFinishedUpTo}
 use Rattle.zoom_pool.specs.declared.meta.Advance.{Advance}
@@ -56,7 +56,7 @@ transcript_before settings (x ∷ xs) ys q e = transcript_before settings xs ys 
 -- ---- progress
 
 pub progress_none : OneTranscript → (questions : List Question) (s : MetaSettings) (partial : List ℕ) (c : ℕ) (h : History) (new : MetaLinks)
-    → MetaAfterUpTo questions s partial h new → Progress questions s partial c h 0 new
+    → MetaAfterPartial questions s partial h new → Progress questions s partial c h 0 new
 progress_none hearing questions s partial c h new a = record {
   calls = [];
   after = a;
@@ -80,7 +80,7 @@ pub transcript_of_call : (p : Transcript) (call : Call) → p.stop ≡ None → 
 transcript_of_call p call none = ap (λ o. cond (is_some o) p (record p { log = Made call ∷ p.log })) none
 
 pub progress_one : OneTranscript → (questions : List Question) (s : MetaSettings) (partial : List ℕ) (c : ℕ) (h : History) (new : MetaLinks)
-    (call : Call) (r : Option CallRefused) → MetaAfterUpTo questions s partial ((c, Called call) ∷ h) new
+    (call : Call) (r : Option CallRefused) → MetaAfterPartial questions s partial ((c, Called call) ∷ h) new
     → ((p : Transcript) → IsTranscript (settings_of s) (events_on c h) p
     → (p.stop ≡ None) × (refusal (standing (past_of p)) call ≡ r))
     → Progress questions s partial c h (so_many r) new
@@ -102,7 +102,7 @@ pub progress_join : (questions : List Question) (s : MetaSettings) (partial : Li
     → Progress questions s partial c h (n + m) new
 progress_join questions s partial c h n m mid new x y = record {
   calls = y.calls ++ x.calls;
-  after = subst (λ l. MetaAfterUpTo questions s partial l new) (sym (made_more c y.calls x.calls h)) y.after;
+  after = subst (λ l. MetaAfterPartial questions s partial l new) (sym (made_more c y.calls x.calls h)) y.after;
   count = λ p q a b.
       let b' = subst (λ l. IsTranscript (settings_of s) (events_on c l) q) (made_more c y.calls x.calls h) b in
       let mid = transcript_before (settings_of s) (map (λ call. Called call) y.calls) (events_on c (call_events c x.calls ++ h)) q
@@ -160,14 +160,14 @@ set_is : (ds : List DriverState) (c : ℕ) (was x d : DriverState) → slice_get
 set_is ds c was x d at e = same_Some x d (sym (get_same ds c x (slice_get_within ds c was at)) ∙ e)
 
 pub call_after : (questions : List Question) (s : MetaSettings) (partial : List ℕ) (h : History) (old new : MetaLinks) (c : ℕ) (call : Call)
-    (r : Option CallRefused) (was x : DriverState) → MetaAfterUpTo questions s partial h old → IsGivenCall questions s c h call old
+    (r : Option CallRefused) (was x : DriverState) → MetaAfterPartial questions s partial h old → IsGivenCall questions s c h call old
     → ((p : Transcript) → IsTranscript (settings_of s) (events_on c h) p → p.stop ≡ None
     → refusal (standing (past_of p)) call ≡ r)
     → Recorded c (Called call) old.pool new.pool → slice_get old.drivers c ≡ Some was
     → ((e : Errand) (settings : Settings) (log : Log) → IsOffer e settings log was call
     → refusal (standing (past settings log)) call ≡ r → IsDriver e settings (Made call ∷ log) x)
     → new.drivers ≡ slice_set old.drivers c x → length new.pool.connections ≡ length old.pool.connections
-    → MetaAfterUpTo questions s partial ((c, Called call) ∷ h) new
+    → MetaAfterPartial questions s partial ((c, Called call) ∷ h) new
 call_after questions s partial h old new c call r was x a gave so recorded at knows ds size = record {
   fit = a.fit;
   askable = a.askable;
@@ -199,12 +199,12 @@ left_then ds es c was x at e lt =
 
 -- the question of a connection
 question_at : (questions : List Question) (s : MetaSettings) (partial : List ℕ) (h : History) (meta : MetaLinks) (c : ℕ)
-    → MetaAfterUpTo questions s partial h meta → c < length meta.pool.connections → (q : Question) × (slice_get questions c ≡ Some q)
+    → MetaAfterPartial questions s partial h meta → c < length meta.pool.connections → (q : Question) × (slice_get questions c ≡ Some q)
 question_at questions s partial h meta c a lt = let n = a.size in
     slice_some questions c (let le : c < length questions = omega (arith, lt, n) in le)
 
 transcript_now : (questions : List Question) (s : MetaSettings) (partial : List ℕ) (h : History) (meta : MetaLinks) (c : ℕ)
-    → (a : MetaAfterUpTo questions s partial h meta) → c < length meta.pool.connections
+    → (a : MetaAfterPartial questions s partial h meta) → c < length meta.pool.connections
     → IsTranscript (settings_of s) (events_on c h) (a.pool.transcript c)
 transcript_now questions s partial h meta c a lt = transcript_at (settings_of s) h a.pool.transcript meta.pool.connections c a.pool.stands lt
 
@@ -278,17 +278,17 @@ refused_to E hearing law c call reason old new was x other lt recorded answer at
 pub kept_to : (E : Type 0) → OneTranscript → (c : ℕ) (call : Call) (old new : MetaLinks) (error : E) → new ≡ old
     → IssueResult c call (Err error) old new
 kept_to E hearing c call old new error same questions s partial h a gave =
-    progress_none hearing questions s partial c h new (subst (MetaAfterUpTo questions s partial h) (sym same) a)
+    progress_none hearing questions s partial c h new (subst (MetaAfterPartial questions s partial h) (sym same) a)
 
 -- ---- looking for the next call
 
 pub stays_after : (questions : List Question) (s : MetaSettings) (partial : List ℕ) (h : History) (old new : MetaLinks) (c : ℕ)
-    (was x : DriverState) → MetaAfterUpTo questions s partial h old → new.pool ≡ old.pool → slice_get old.drivers c ≡ Some was
-    → new.drivers ≡ slice_set old.drivers c x → SameDriver was x → MetaAfterUpTo questions s partial h new
+    (was x : DriverState) → MetaAfterPartial questions s partial h old → new.pool ≡ old.pool → slice_get old.drivers c ≡ Some was
+    → new.drivers ≡ slice_set old.drivers c x → SameDriver was x → MetaAfterPartial questions s partial h new
 stays_after questions s partial h old new c was x a pool at ds stays = record {
   fit = a.fit;
   askable = a.askable;
-  pool = subst (AfterUpTo (settings_of s) partial h) (sym pool) a.pool;
+  pool = subst (AfterPartial (settings_of s) partial h) (sym pool) a.pool;
   driven = subst (AreDriven questions s h) (sym ds) (record {
     size = length-set old.drivers c x ∙ a.driven.size;
     each = λ i q d p asked drives transcript. by i q d p asked drives transcript (c == i) refl;
@@ -316,7 +316,7 @@ stays_after questions s partial h old new c was x a pool at ds stays = record {
 
 -- the state of the connection
 pub state_is : OneTranscript → (questions : List Question) (s : MetaSettings) (partial : List ℕ) (h : History) (meta : MetaLinks) (c : ℕ)
-    (state : State) → MetaAfterUpTo questions s partial h meta → c < length meta.pool.connections → IsStateAt c meta.pool state
+    (state : State) → MetaAfterPartial questions s partial h meta → c < length meta.pool.connections → IsStateAt c meta.pool state
     → (p : Transcript) → IsTranscript (settings_of s) (events_on c h) p → state ≡ state_at p
 state_is hearing questions s partial h meta c state a lt is p transcript =
     is (settings_of s) partial h a.pool
@@ -404,7 +404,7 @@ issued_to E hearing c old mid new state was x call answer lt is going pool at ds
 -- `n` calls were admitted, and at least `k` fewer are left
 abbrev pub Drove : ℕ → ℕ → ℕ → MetaLinks → MetaLinks → Type 0
 Drove c n k old now =
-    (questions : List Question) (s : MetaSettings) (partial : List ℕ) (h : History) → MetaAfterUpTo questions s partial h old
+    (questions : List Question) (s : MetaSettings) (partial : List ℕ) (h : History) → MetaAfterPartial questions s partial h old
     → Progress questions s partial c h n now × (left_at now c + k ≤ left_at old c)
 
 pub drove_admitted : (E : Type 0) → (c n k : ℕ) (old mid new : MetaLinks) → Drove c n k old mid

@@ -15,7 +15,7 @@ use Rattle.zorigin.specs.declared.refusal.CallRefused.{CallRefused}
 use Rattle.zorigin.specs.declared.refusal.Refused.{Refused}
 use Rattle.zorigin.specs.declared.state.State.TheVariants as origins
 use Rattle.zorigin.specs.Standings.{Call, Init, Search, Present, Close, is_open, is_ready, ready}
-use Rattle.zorigin.specs.Changes.{force_in}
+use Rattle.zorigin.specs.Changes.{options_in_force}
 use Rattle.zorigin.specs.Calls.{refusal}
 use Rattle.zorigin.specs.Replies.{verdict}
 use Rattle.zorigin.specs.Log.{Log, Made, Got, Past, past, standing, state_of, state_from, state_by, closing_state, opening}
@@ -89,8 +89,8 @@ ready_by : (reply : Apdu) → is_stopped (state_as (closing_state false (state_b
     → is_ready (closing_state false (state_by reply)) ≡ true
 ready_by (apdus.InitRequest v) f = absurd (true≢false f)
 ready_by (apdus.InitResponse v) f =
-    elim v.result as (λ b. is_stopped (state_as (closing_state false (cond b (ready (force_in v)) origins.Closed))) ≡ false
-    → is_ready (closing_state false (cond b (ready (force_in v)) origins.Closed)) ≡ true) [
+    elim v.result as (λ b. is_stopped (state_as (closing_state false (cond b (ready (options_in_force v)) origins.Closed))) ≡ false
+    → is_ready (closing_state false (cond b (ready (options_in_force v)) origins.Closed)) ≡ true) [
       | true ↦ λ g. refl
       | false ↦ λ g. absurd (true≢false g)
     ] f
@@ -123,7 +123,7 @@ rejected_by : (closing : Bool) (reply : Apdu) → is_rejection reply ≡ true
 rejected_by closing (apdus.InitRequest v) t = refl
 rejected_by closing (apdus.InitResponse v) t =
     elim v.result as (λ b. not b ≡ true
-    → is_stopped (state_as (closing_state closing (cond b (ready (force_in v)) origins.Closed))) ≡ true) [
+    → is_stopped (state_as (closing_state closing (cond b (ready (options_in_force v)) origins.Closed))) ≡ true) [
       | true ↦ λ g. absurd (true≢false (sym g))
       | false ↦ λ g. refl
     ] t

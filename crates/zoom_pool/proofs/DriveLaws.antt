@@ -23,7 +23,7 @@ use Rattle.zoom_pool.specs.Laws.{OneTranscript}
 use Rattle.zoom_pool.specs.Driving.{plan_of, events_of, made_event, IsNumbered, IsDrivenLog, DrivenLaws}
 use Rattle.zoom_pool.specs.Steering.{Errand, errand_of, may_call, room_in, IsCallOf, IsNextCall, HasFewestRanges, IsDriverCall, IsSteeredCall, IsSteered}
 use Rattle.zoom_pool.specs.Drivers.{IsDriver}
-use Rattle.zoom_pool.specs.Metas.{MetaLinks, MetaAfterUpTo, IsIdleUnlessStopped, call_events, settings_of}
+use Rattle.zoom_pool.specs.Metas.{MetaLinks, MetaAfterPartial, IsIdleUnlessStopped, call_events, settings_of}
 use Rattle.zoom_pool.specs.DriveLaws.{OneCallLaw, OneDriveLaw, DriveLaws}
 use Rattle.zoom_pool.proofs.Fewest.{same_ranges, one_event}
 use Rattle.zoom_pool.proofs.MetaLaws.{driver_of}
@@ -272,7 +272,7 @@ module _ (hearing : OneTranscript) (settings : Settings) (events : List Event) (
 -- if no call is next, the log is at rest
 rests : (questions : List Question) (s : MetaSettings) (partial : List ℕ) (c : ℕ) (question : Question) (h : History)
     (meta : MetaLinks) (p : Transcript) → slice_get questions c ≡ Some question
-    → MetaAfterUpTo questions s partial h meta → p.stop ≡ None → IsTranscript (settings_of s) (events_on c h) p
+    → MetaAfterPartial questions s partial h meta → p.stop ≡ None → IsTranscript (settings_of s) (events_on c h) p
     → IsIdleUnlessStopped (errand_of s question) p
     → IsAtRest (errand_of s question) p.settings p.log × IsWanted (positions question.wanted) × (0 < s.step)
 rests questions s partial c question h meta p at a stop x none =

@@ -41,7 +41,7 @@ use Rattle.zorigin.proofs.Members.{among, contained}
 use Rattle.zoom_pool.proofs.Drivings.{sent_known, replied}
 use Rattle.zoom_pool.proofs.Drivings as drivings
 use Rattle.zoom_pool.proofs.DueRows.{and_false, or_first, any_in, init_rows, search_rows, present_rows, admits_init, admits_close, admits_present, refuses_search, unused, number_init, none_past, none_left}
-use Rattle.zoom_pool.proofs.Kept.{idle_answered, unsearched}
+use Rattle.zoom_pool.proofs.DriverAgreement.{idle_answered, unsearched}
 use Rattle.zoom_pool.proofs.Nexts.{unfresh_at, unready_at}
 
 no_some : {A : Type 0} {x : A} → Some x ≡ None → ⊥

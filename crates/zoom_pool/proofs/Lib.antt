@@ -12,7 +12,7 @@ pub mod Advancing
 pub mod Phases
 pub mod Closings
 pub mod Nexts
-pub mod Kept
+pub mod DriverAgreement
 pub mod TakenReplies
 pub mod Wants
 pub mod Starts

@@ -7,11 +7,11 @@ use Rattle.zoom_questions.specs.declared.question.MetaSettings.{MetaSettings}
 use Rattle.zoom_pool.specs.States.{is_stopped}
 use Rattle.zoom_pool.specs.Transcripts.{Transcript, Took, state_at}
 use Rattle.zoom_pool.specs.History.{History, partial_after}
-use Rattle.zoom_pool.specs.Metas.{MetaLinks, MetaAfterUpTo, MetaTakeStep, settings_of}
+use Rattle.zoom_pool.specs.Metas.{MetaLinks, MetaAfterPartial, MetaTakeStep, settings_of}
 use Rattle.zoom_pool.proofs.Pools.{up_to_more}
 
 wider : (q : List Question) (s : MetaSettings) (some more : List ℕ) (h : History) (meta : MetaLinks)
-    → ((c : ℕ) → Contains some c → Contains more c) → MetaAfterUpTo q s some h meta → MetaAfterUpTo q s more h meta
+    → ((c : ℕ) → Contains some c → Contains more c) → MetaAfterPartial q s some h meta → MetaAfterPartial q s more h meta
 wider q s some more h meta all a = record {
   fit = a.fit;
   askable = a.askable;
@@ -22,7 +22,7 @@ wider q s some more h meta all a = record {
 
 -- one connection more
 pub more_partial : (q : List Question) (s : MetaSettings) (partial : List ℕ) (c : ℕ) (h : History) (meta : MetaLinks)
-    → MetaAfterUpTo q s partial h meta → MetaAfterUpTo q s (c ∷ partial) h meta
+    → MetaAfterPartial q s partial h meta → MetaAfterPartial q s (c ∷ partial) h meta
 more_partial q s partial c h meta a = wider q s partial (c ∷ partial) h meta (λ d is. in_tail c partial d is) a
 
 filtered : (t : ℕ → Bool) (xs : List ℕ) (x : ℕ) → Contains (filter t xs) x → Contains xs x
@@ -37,7 +37,7 @@ filtered t (y ∷ ys) x h = elim (t y) as (λ b. Contains (cond b (y ∷ filter 
 
 -- a Take of `c`, whether or not it completed an earlier one
 pub took_within : (c : ℕ) (old new : MetaLinks) → MetaTakeStep c old new → (q : List Question) (s : MetaSettings)
-    (partial : List ℕ) (h : History) → MetaAfterUpTo q s partial h old → MetaAfterUpTo q s partial ((c, Took) ∷ h) new
+    (partial : List ℕ) (h : History) → MetaAfterPartial q s partial h old → MetaAfterPartial q s partial ((c, Took) ∷ h) new
 took_within c old new took q s partial h a =
     let p : Transcript = a.pool.transcript c in
     wider q s (partial_after c p partial) partial ((c, Took) ∷ h) new

@@ -23,13 +23,13 @@ use Rattle.zoom_pool.specs.declared.step.TakeError.TheVariants as errors
 use Rattle.zoom_pool.specs.States.{is_stopped}
 use Rattle.zoom_pool.specs.Inputs.{Input, AlreadyStopped, Message, Foreign, Fault, Rest, Nothing}
 use Rattle.zoom_pool.specs.Transcripts.{Transcript, IsTranscript, EventStep, Event, Called, Fed, Took, InputEnded, HandedOut, Stopped, NextInput, after_take, after_reply}
-use Rattle.zoom_pool.specs.Transcripts.{after_feed, after_stop, end_by, truncated, past_of, state_at, outcome_of_reply, outcome_of, IsDone}
+use Rattle.zoom_pool.specs.Transcripts.{after_feed, after_stop, end_by, truncated, past_of, state_at, outcome_of_reply, outcome_of, HasFoundMemory}
 use Rattle.zoom_pool.specs.Links.{Link}
-use Rattle.zoom_pool.specs.History.{History, events_on, AreTranscripts, After, AfterUpTo}
+use Rattle.zoom_pool.specs.History.{History, events_on, AreTranscripts, After, AfterPartial}
 use Rattle.zoom_questions.specs.Askable.{IsAskable, AreFit, AreAskable}
 use Rattle.zoom_pool.specs.Steering.{Errand, errand_with, errand_of}
 use Rattle.zoom_pool.specs.Drivers.{DriverState, IsDriver, NoteReplyStep, RefusedLaw}
-use Rattle.zoom_pool.specs.Metas.{MetaLinks, settings_of, AreDriven, MetaAfter, MetaAfterUpTo, MetaTakeStep, DriverTakeStep, NoteTakeStep, AreNewDrivers, IsTranscriptValueUpTo}
+use Rattle.zoom_pool.specs.Metas.{MetaLinks, settings_of, AreDriven, MetaAfter, MetaAfterPartial, MetaTakeStep, DriverTakeStep, NoteTakeStep, AreNewDrivers, IsTranscriptValueUpTo}
 use Rattle.zoom_pool.specs.Laws.{OneInput, OneTranscript}
 use Rattle.zoom_pool.specs.PoolSteps.{IsStateAt, IsTakeOutcome, TakeStep}
 use Rattle.zoom_pool.proofs.Pools.{only_same, only_other, get_same, get_other}
@@ -92,9 +92,9 @@ known_still e d p r same k = subst (λ z. IsDriver e z r.log d) (sym same.0)
 
 pub quiet_after : (questions : List Question) (s : MetaSettings) (partial : List ℕ) (h : History) (old new : MetaLinks)
     (c : ℕ) (event : Event)
-    → IsQuiet event → MetaAfterUpTo questions s partial h old → AfterUpTo (settings_of s) partial ((c, event) ∷ h) new.pool
+    → IsQuiet event → MetaAfterPartial questions s partial h old → AfterPartial (settings_of s) partial ((c, event) ∷ h) new.pool
     → new.drivers ≡ old.drivers → length new.pool.connections ≡ length old.pool.connections
-    → MetaAfterUpTo questions s partial ((c, event) ∷ h) new
+    → MetaAfterPartial questions s partial ((c, event) ∷ h) new
 quiet_after questions s partial h old new c event is a pool drivers size = record {
   fit = a.fit;
   askable = a.askable;
@@ -195,7 +195,7 @@ state_tells hearing value c meta state lt is q s partial h p a transcript =
 -- a Take with this outcome
 pub taken_more : OneInput → OneTranscript → (questions : List Question) (s : MetaSettings) (partial : List ℕ) (h : History)
     (old : MetaLinks) (drivers : List DriverState) (c : ℕ) (answer : Result Outcome TakeError)
-    → MetaAfterUpTo questions s partial h old → IsTakeOutcome c old.pool answer → IsDone answer
+    → MetaAfterPartial questions s partial h old → IsTakeOutcome c old.pool answer → HasFoundMemory answer
     → c < length old.pool.connections → length drivers ≡ length old.drivers
     → ((i : ℕ) → (c == i) ≡ false → slice_get drivers i ≡ slice_get old.drivers i)
     → ((d : DriverState) → slice_get drivers c ≡ Some d
@@ -214,7 +214,7 @@ taken_more meeting hearing questions s partial h old drivers c answer a outcome 
     (k.2 (errand_of s q) p is_step.0 (a.driven.each c q k.0 p asked k.1 transcript) answers))
 
 pub took_meta : OneInput → OneTranscript → (c : ℕ) (old new : MetaLinks) (was x : DriverState) (answer : Result Outcome TakeError)
-    → IsTakeOutcome c old.pool answer → IsDone answer → TakeStep c old.pool new.pool
+    → IsTakeOutcome c old.pool answer → HasFoundMemory answer → TakeStep c old.pool new.pool
     → c < length old.pool.connections → slice_get old.drivers c ≡ Some was
     → DriverTakeStep answer was x → new.drivers ≡ slice_set old.drivers c x
     → length new.pool.connections ≡ length old.pool.connections → MetaTakeStep c old new
@@ -236,7 +236,7 @@ took_meta meeting hearing c old new was x answer outcome done took lt at knows d
 
 -- a Take whose reply the origin refused
 pub refused_meta : OneInput → OneTranscript → RefusedLaw → (c : ℕ) (old new : MetaLinks) (error : TakeError)
-    → IsTakeOutcome c old.pool (Err error) → IsDone {A = Outcome} (Err error) → TakeStep c old.pool new.pool
+    → IsTakeOutcome c old.pool (Err error) → HasFoundMemory {A = Outcome} (Err error) → TakeStep c old.pool new.pool
     → c < length old.pool.connections → new.drivers ≡ old.drivers
     → length new.pool.connections ≡ length old.pool.connections → MetaTakeStep c old new
 refused_meta meeting hearing law c old new error outcome done took lt ds size =

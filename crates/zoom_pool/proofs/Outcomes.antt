@@ -11,7 +11,7 @@ use Rattle.zoom_pool.specs.declared.step.Outcome.TheVariants as outcome
 use Rattle.zoom_pool.specs.declared.step.TakeError.{TakeError}
 use Rattle.zoom_pool.specs.declared.step.TakeError.TheVariants as errors
 use Rattle.zoom_pool.specs.Inputs.{Input, AlreadyStopped, Message, Foreign, Fault, Rest, Nothing}
-use Rattle.zoom_pool.specs.Transcripts.{Transcript, past_of, take_result_of_verdict, outcome_of_reply, take_result, outcome_of, take_result_of_outcome, IsDone}
+use Rattle.zoom_pool.specs.Transcripts.{Transcript, past_of, take_result_of_verdict, outcome_of_reply, take_result, outcome_of, take_result_of_outcome, HasFoundMemory}
 use Rattle.zoom_pool.specs.Links.{Links}
 use Rattle.zoom_pool.specs.PoolSteps.{IsTakeResult, IsTakeOutcome}
 
@@ -35,6 +35,6 @@ take_answer c pool answer t settings d h a done =
     let is = t settings d h a (by answer done) in
     (is.0, is.1, ap take_result_of_outcome is.2 ∙ result_of_step (a.transcript c) is.0)
   where
-    by : (z : Result Outcome TakeError) → IsDone (take_result_of_outcome z) → IsDone z
+    by : (z : Result Outcome TakeError) → HasFoundMemory (take_result_of_outcome z) → HasFoundMemory z
     by (Ok x) d = tt
     by (Err e) d = d

@@ -14,7 +14,7 @@ use Rattle.zorigin.specs.declared.state.State.TheVariants as origins
 use Rattle.zorigin.specs.declared.answer.Answer.{Answer}
 use Rattle.zorigin.specs.declared.refusal.Refused.{Refused}
 use Rattle.zorigin.specs.Standings.{Call, is_fresh, is_ready, nothing_in_force, ready}
-use Rattle.zorigin.specs.Changes.{force_in}
+use Rattle.zorigin.specs.Changes.{options_in_force}
 use Rattle.zorigin.specs.Log.{state_from, state_by, closing_state, force_by, force_after, is_close_call}
 use Rattle.zoom_pool.specs.States.{state_as}
 use Rattle.zoom_pool.specs.Steering.{may_call}
@@ -30,8 +30,8 @@ unready None false closing false = refl
 
 fresh_by : (closing : Bool) (reply : Apdu) → is_fresh (closing_state closing (state_by reply)) ≡ false
 fresh_by closing (apdus.InitRequest v) = refl
-fresh_by true (apdus.InitResponse v) = elim v.result as (λ b. is_fresh (closing_state true (cond b (ready (force_in v)) origins.Closed)) ≡ false) [ true ↦ refl | false ↦ refl ]
-fresh_by false (apdus.InitResponse v) = elim v.result as (λ b. is_fresh (closing_state false (cond b (ready (force_in v)) origins.Closed)) ≡ false) [ true ↦ refl | false ↦ refl ]
+fresh_by true (apdus.InitResponse v) = elim v.result as (λ b. is_fresh (closing_state true (cond b (ready (options_in_force v)) origins.Closed)) ≡ false) [ true ↦ refl | false ↦ refl ]
+fresh_by false (apdus.InitResponse v) = elim v.result as (λ b. is_fresh (closing_state false (cond b (ready (options_in_force v)) origins.Closed)) ≡ false) [ true ↦ refl | false ↦ refl ]
 fresh_by closing (apdus.SearchRequest v) = refl
 fresh_by closing (apdus.SearchResponse v) = refl
 fresh_by closing (apdus.PresentRequest v) = refl
@@ -45,7 +45,7 @@ unfresh None false closing begun answer = fresh_by closing answer.reply
 
 closing_by : (reply : Apdu) → may_call (closing_state true (state_by reply)) ≡ false
 closing_by (apdus.InitRequest v) = refl
-closing_by (apdus.InitResponse v) = elim v.result as (λ b. may_call (closing_state true (cond b (ready (force_in v)) origins.Closed)) ≡ false) [ true ↦ refl | false ↦ refl ]
+closing_by (apdus.InitResponse v) = elim v.result as (λ b. may_call (closing_state true (cond b (ready (options_in_force v)) origins.Closed)) ≡ false) [ true ↦ refl | false ↦ refl ]
 closing_by (apdus.SearchRequest v) = refl
 closing_by (apdus.SearchResponse v) = refl
 closing_by (apdus.PresentRequest v) = refl
@@ -60,9 +60,9 @@ uncallable None false begun answer = closing_by answer.reply
 force_ready : (closing : Bool) (reply : Apdu) (v3 concurrent named : Bool) → closing_state closing (state_by reply) ≡ origins.Ready v3 concurrent named → (force_by reply).concurrent ≡ concurrent
 force_ready closing (apdus.InitRequest v) v3 c n e = absurd (cc)
 force_ready true (apdus.InitResponse v) v3 c n e =
-    elim v.result as (λ b. closing_state true (cond b (ready (force_in v)) origins.Closed) ≡ origins.Ready v3 c n → (cond b (force_in v) nothing_in_force).concurrent ≡ c) [ true ↦ λ f. absurd (cc) | false ↦ λ f. absurd (cc) ] e
+    elim v.result as (λ b. closing_state true (cond b (ready (options_in_force v)) origins.Closed) ≡ origins.Ready v3 c n → (cond b (options_in_force v) nothing_in_force).concurrent ≡ c) [ true ↦ λ f. absurd (cc) | false ↦ λ f. absurd (cc) ] e
 force_ready false (apdus.InitResponse v) v3 c n e =
-    elim v.result as (λ b. closing_state false (cond b (ready (force_in v)) origins.Closed) ≡ origins.Ready v3 c n → (cond b (force_in v) nothing_in_force).concurrent ≡ c) [ true ↦ λ f. cc | false ↦ λ f. absurd (cc) ] e
+    elim v.result as (λ b. closing_state false (cond b (ready (options_in_force v)) origins.Closed) ≡ origins.Ready v3 c n → (cond b (options_in_force v) nothing_in_force).concurrent ≡ c) [ true ↦ λ f. cc | false ↦ λ f. absurd (cc) ] e
 force_ready closing (apdus.SearchRequest v) v3 c n e = absurd (cc)
 force_ready closing (apdus.SearchResponse v) v3 c n e = absurd (cc)
 force_ready closing (apdus.PresentRequest v) v3 c n e = absurd (cc)

@@ -31,7 +31,7 @@ use Rattle.zoom_pool.specs.Transcripts.{after_take, news_at, facts_of_verdict, I
 use Rattle.zoom_pool.specs.States.{is_stopped}
 use Rattle.zoom_pool.specs.Connections.{AreConsistent, AreReadBack, ConnectionAfter}
 use Rattle.zoom_pool.specs.Steps.{TakeResult}
-use Rattle.zoom_pool.specs.History.{History, events_on, facts_at, IsKnown, IsPendingAt, IsPending, AreTranscripts, AfterUpTo, partial_after}
+use Rattle.zoom_pool.specs.History.{History, events_on, facts_at, IsKnown, IsPendingAt, IsPending, AreTranscripts, AfterPartial, partial_after}
 use Rattle.zoom_pool.specs.Laws.{OneInput}
 use Rattle.zoom_pool.proofs.Stops.{goes}
 use Rattle.zoom_pool.proofs.Pools.{changed, changed_same, stands_more, stands_same}
@@ -209,10 +209,10 @@ pending_took meeting settings events partial transcript c m q heard is_next (d, 
 -- ---- the pool
 
 pub taken_after : (meeting : OneInput) (settings : Settings) (partial : List ℕ) (h : History) (old new : Links) (c : ℕ)
-    (was x : Link) (answer : Result Outcome TakeError) → c < length old.connections → (a : AfterUpTo settings partial h old)
+    (was x : Link) (answer : Result Outcome TakeError) → c < length old.connections → (a : AfterPartial settings partial h old)
     → ConnectionAfter settings (events_on c h) (a.transcript c) was → TakeResult c (a.transcript c) answer x old.knowledge new.knowledge
     → x.waiting ≡ was.waiting → AreFacts new.knowledge → new.connections ≡ slice_set old.connections c x
-    → AfterUpTo settings (partial_after c (a.transcript c) partial) ((c, Took) ∷ h) new
+    → AfterPartial settings (partial_after c (a.transcript c) partial) ((c, Took) ∷ h) new
 taken_after meeting settings partial h old new c was x answer lt a l t w lawful cs =
     let p = a.transcript c in
     let now = changed c (after_take p t.input) a.transcript in
@@ -236,11 +236,11 @@ pending_wider : (c : ℕ) (partial : List ℕ) (transcript : ℕ → Transcript)
 pending_wider c partial transcript q (d, is, n) = (d, in_tail c partial d is, n)
 
 pub kept_up_to : (settings : Settings) (partial : List ℕ) (h : History) (old new : Links) (c : ℕ) (was x : Link)
-    → c < length old.connections → (a : AfterUpTo settings partial h old)
+    → c < length old.connections → (a : AfterPartial settings partial h old)
     → ConnectionAfter settings (events_on c h) (a.transcript c) was
     → AreConsistent (a.transcript c) x → x.waiting ≡ was.waiting
     → IsPartOfUnion (Contains old.knowledge) (IsNews c (a.transcript c)) (Contains new.knowledge) → AreFacts new.knowledge
-    → new.connections ≡ slice_set old.connections c x → AfterUpTo settings (c ∷ partial) h new
+    → new.connections ≡ slice_set old.connections c x → AfterPartial settings (c ∷ partial) h new
 kept_up_to settings partial h old new c was x lt a l m w part lawful cs = record {
   transcript = a.transcript;
   stands = subst (AreTranscripts settings h a.transcript) (sym cs) (stands_same settings h a.transcript old.connections c x lt a.stands

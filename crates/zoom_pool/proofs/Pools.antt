@@ -23,7 +23,7 @@ use Rattle.zoom_pool.specs.Transcripts.{Event, Transcript, state_at, after_call,
 use Rattle.zoom_pool.specs.States.{is_stopped}
 use Rattle.zoom_pool.specs.Connections.{AreConsistent, ConnectionAfter}
 use Rattle.zoom_pool.specs.Steps.{LinkRecorded}
-use Rattle.zoom_pool.specs.History.{History, events_on, accepted, facts_at, IsKnown, IsPendingAt, IsPending, AreTranscripts, After, AfterUpTo}
+use Rattle.zoom_pool.specs.History.{History, events_on, accepted, facts_at, IsKnown, IsPendingAt, IsPending, AreTranscripts, After, AfterPartial}
 use Rattle.zoom_pool.specs.PoolSteps.{Recorded, HasHandedOutAll, IsPoolFinished}
 
 pub same_number : (c : ℕ) → (c == c) ≡ true
@@ -163,11 +163,11 @@ pending_changed partial transcript c p q keeps (d, is, n) = (
 -- an event that accepts no reply, and does not change what the next message says
 pub after_more : (settings : Settings) (partial : List ℕ) (h : History) (old new : Links) (c : ℕ) (event : Event)
     (p : Transcript) (x : Link)
-    → c < length old.connections → (a : AfterUpTo settings partial h old)
+    → c < length old.connections → (a : AfterPartial settings partial h old)
     → ConnectionAfter settings (event ∷ events_on c h) p x
     → accepted p ≡ accepted (a.transcript c) → ((q : Fact) → IsPendingAt c (a.transcript c) q → IsPendingAt c p q)
     → new.connections ≡ slice_set old.connections c x
-    → new.knowledge ≡ old.knowledge → AfterUpTo settings partial ((c, event) ∷ h) new
+    → new.knowledge ≡ old.knowledge → AfterPartial settings partial ((c, event) ∷ h) new
 after_more settings partial h old new c event p x lt a l same keeps cs k = record {
   transcript = changed c p a.transcript;
   stands = subst (AreTranscripts settings ((c, event) ∷ h) (changed c p a.transcript)) (sym cs)
@@ -257,7 +257,7 @@ given_all c old new x lt cs none =
 
 -- Takes of more connections may have found no memory
 pub up_to_more : (settings : Settings) (some more : List ℕ) (h : History) (pool : Links)
-    → ((c : ℕ) → Contains some c → Contains more c) → AfterUpTo settings some h pool → AfterUpTo settings more h pool
+    → ((c : ℕ) → Contains some c → Contains more c) → AfterPartial settings some h pool → AfterPartial settings more h pool
 up_to_more settings some more h pool wider a = record {
   transcript = a.transcript;
   stands = a.stands;

@@ -31,7 +31,7 @@ use Rattle.zorigin.specs.declared.state.Outcome.TheVariants as outcomes
 use Rattle.zplan.specs.Ranges.{natural, positions}
 use Rattle.zorigin.specs.Fitting.{fault_of, search_fault, present_fault, records_in}
 use Rattle.zorigin.specs.Replies.{verdict, open_verdict, against, judged, named, taken_by}
-use Rattle.zorigin.specs.Changes.{force_in, outcome_in}
+use Rattle.zorigin.specs.Changes.{options_in_force, outcome_in}
 use Rattle.zorigin.specs.Laws.{IsOrderly, answered_op}
 use Rattle.zorigin.specs.Log.{Log, Got, Past, past, standing, state_from, opening, is_opening, is_init, force_after, force_by, closing_state, state_by, accept, after_verdict, is_close_call, is_init_call, is_answer_to, search_in}
 use Rattle.zoom_pool.specs.declared.phase.Phase.{Phase}
@@ -40,7 +40,7 @@ use Rattle.zoom_pool.specs.Driving.{operation_for, reply_for, got_event, can_sea
 use Rattle.zoom_pool.specs.Steering.{Errand, may_call, complete_in, is_rejected, is_rejection}
 use Rattle.zoom_pool.specs.Drivers.{DriverState, IsDriver, IsAtPhase, AtOpening, AtOpened, AtSearching, AtAsking, AtClosed, HasOpening, AllAnswered, IsFreeStart, HaveApartStarts, events_at, searched_events, left_in, opened_phase, counted_phase, IsAnsweredAgenda, AnswerStep, TakenStep, NoteReplyStep, HasFound, is_rejection_of}
 use Rattle.zoom_pool.proofs.Phases.{none_due}
-use Rattle.zoom_pool.proofs.Kept.{closed_reply, same_version, same_sending, same_found}
+use Rattle.zoom_pool.proofs.DriverAgreement.{closed_reply, same_version, same_sending, same_found}
 use Rattle.zoom_pool.proofs.Drivings.{answered_number, differ}
 
 no_some : {A : Type 0} {x : A} → Some x ≡ None → ⊥
@@ -317,7 +317,7 @@ module _ (laws : AgendaLaws) (driven : DrivenLaws) (numbers : NumberLaw) (orderl
 
   -- the target accepted the association
   opened_at : (a : Answer) (v : InitResponse) → Accepted a → a.reply ≡ apdus.InitResponse v → v.result ≡ true → a.asked.what ≡ what.Init
-      → AtOpening e settings log → AtOpened e settings (Got reply ∷ log) (force_in v).present (force_in v).v3
+      → AtOpening e settings log → AtOpened e settings (Got reply ∷ log) (options_in_force v).present (options_in_force v).v3
   opened_at a v acc r t w k =
       let op : opening new_past ≡ Some a = ap opening acc.past ∙ find_last old_past.accepted a k.opening (ap is_init w) in
       record {
@@ -325,14 +325,14 @@ module _ (laws : AgendaLaws) (driven : DrivenLaws) (numbers : NumberLaw) (orderl
         events = acc.events
             ∙ ap (λ x. ReplyAccepted (operation_for x) (reply_for e.ask new_past a.reply) ∷ old_events) w
             ∙ ap (λ x. ReplyAccepted plan.Init (reply_for e.ask new_past x) ∷ old_events) r
-            ∙ ap (λ b. ReplyAccepted plan.Init (InitReply (b && can_search e.ask new_past) (force_in v).v3) ∷ old_events) t
-            ∙ ap (λ z. ReplyAccepted plan.Init (InitReply (can_search e.ask new_past) (force_in v).v3) ∷ z) k.events;
+            ∙ ap (λ b. ReplyAccepted plan.Init (InitReply (b && can_search e.ask new_past) (options_in_force v).v3) ∷ old_events) t
+            ∙ ap (λ z. ReplyAccepted plan.Init (InitReply (can_search e.ask new_past) (options_in_force v).v3) ∷ z) k.events;
         can = λ rd. refl;
         opening = (a, op);
         shows = ap (λ o. (force_after o).present) op ∙ ap (λ x. (force_by x).present) r
-            ∙ ap (λ b. (cond b (force_in v) nothing_in_force).present) t;
+            ∙ ap (λ b. (cond b (options_in_force v) nothing_in_force).present) t;
         version = ap (λ o. (force_after o).v3) op ∙ ap (λ x. (force_by x).v3) r
-            ∙ ap (λ b. (cond b (force_in v) nothing_in_force).v3) t;
+            ∙ ap (λ b. (cond b (options_in_force v) nothing_in_force).v3) t;
       }
 
   -- the target rejected the association
@@ -357,7 +357,7 @@ module _ (laws : AgendaLaws) (driven : DrivenLaws) (numbers : NumberLaw) (orderl
 
       shut : (closing : Bool) → may_call (closing_state closing (state_by a.reply)) ≡ false
       shut closing = ap (λ x. may_call (closing_state closing (state_by x))) r
-          ∙ ap (λ b. may_call (closing_state closing (cond b (ready (force_in v)) origins.Closed))) f
+          ∙ ap (λ b. may_call (closing_state closing (cond b (ready (options_in_force v)) origins.Closed))) f
 
       by : (fault : Option Refused) (closed closing begun : Bool) → may_call (state_from fault closed closing begun (Some a)) ≡ false
       by (Some reason) closed closing begun = refl
@@ -494,7 +494,7 @@ knows_outcome laws driven numbers orderly (taken.Opened a) old new s er sk co l 
     (subst (λ w. IsIn (operation_for w) (asked_in (events_at e settings log))) f.3 acc.asked)
     (subst (λ w. replies_in (events_at e settings log) (operation_for w) ≡ None) f.3 acc.unanswered) in
     let o : AtOpening e settings log = subst (IsAtPhase e settings log) ph k.at in
-    let to : new.phase ≡ phases.Opened (force_in f.0).present (force_in f.0).v3 = s ∙ ap opened_phase f.1 in
+    let to : new.phase ≡ phases.Opened (options_in_force f.0).present (options_in_force f.0).v3 = s ∙ ap opened_phase f.1 in
     let c : complete_in (past settings (Got reply ∷ log)) ≡ complete_in (past settings log) =
     first_complete (past settings log) (past settings (Got reply ∷ log)) a acc.past o.opening (ap is_init f.3)
     ∙ ap (λ b. b || complete_in (past settings log)) (ap (λ z. is_rejection z) f.1 ∙ ap not f.2) in

@@ -32,7 +32,7 @@ use Rattle.zoom_pool.specs.declared.step.TakeError.TheVariants as errors
 use Rattle.zoom_pool.specs.States.{is_stopped}
 use Rattle.zoom_pool.specs.Inputs.{Input, AlreadyStopped, Message, Foreign, Fault, Rest, Nothing, IsForeign, IsReadAs, IsBehind}
 use Rattle.zber.specs.declared.framer.TheConstants.{MESSAGE_LIMIT}
-use Rattle.zoom_pool.specs.Transcripts.{Transcript, past_of, state_at, after_stop, end_by, truncated, NextInput, after_reply, after_take, outcome_of_reply, news_at, facts_of_verdict, IsNews, IsDone}
+use Rattle.zoom_pool.specs.Transcripts.{Transcript, past_of, state_at, after_stop, end_by, truncated, NextInput, after_reply, after_take, outcome_of_reply, news_at, facts_of_verdict, IsNews, HasFoundMemory}
 use Rattle.zoom_pool.specs.Connections.{IsKept, FramerAfter, AreConsistent}
 use Rattle.zoom_pool.specs.Steps.{InputStep, MessageStep, IsNewsIn, TakeResult, EmptyTake, stop_after, held_after}
 use Rattle.zoom_pool.proofs.Unions.{union_none, part_wider}
@@ -95,7 +95,7 @@ frames_stopped p reason held t f = record {
 }
 
 -- a message that was taken is not kept
-pub held_done : (answer : Result Outcome TakeError) (e : Element) (old : Option Element) → IsDone answer
+pub held_done : (answer : Result Outcome TakeError) (e : Element) (old : Option Element) → HasFoundMemory answer
     → held_after answer e old ≡ old
 held_done (Ok x) e old d = refl
 held_done (Err (errors.Frame kind at)) e old d = refl

@@ -10,7 +10,7 @@ use Rattle.zoom_pool.specs.Transcripts.{Transcript, IsTranscript, past_of}
 use Rattle.zoom_pool.specs.History.{History, events_on}
 use Rattle.zoom_pool.specs.Steering.{Errand, errand_of, IsDriverCall}
 use Rattle.zoom_pool.specs.Drivers.{DriverState, IsDriver}
-use Rattle.zoom_pool.specs.Metas.{MetaLinks, MetaAfterUpTo, IsIdleUnlessStopped, call_events, settings_of}
+use Rattle.zoom_pool.specs.Metas.{MetaLinks, MetaAfterPartial, IsIdleUnlessStopped, call_events, settings_of}
 
 -- two calls that are the driver's after the same log are the same call, with the same ranges
 abbrev pub OneCallLaw : Type 0
@@ -27,8 +27,8 @@ OneDriveLaw =
     (questions : List Question) (s : MetaSettings) (some more : List ℕ) (c : ℕ) (question : Question) (h : History)
     (calls others : List Call) (one other : MetaLinks) (p q : Transcript)
     → slice_get questions c ≡ Some question
-    → MetaAfterUpTo questions s some (call_events c calls ++ h) one
-    → MetaAfterUpTo questions s more (call_events c others ++ h) other
+    → MetaAfterPartial questions s some (call_events c calls ++ h) one
+    → MetaAfterPartial questions s more (call_events c others ++ h) other
     → IsTranscript (settings_of s) (events_on c (call_events c calls ++ h)) p
     → IsTranscript (settings_of s) (events_on c (call_events c others ++ h)) q
     → IsIdleUnlessStopped (errand_of s question) p → IsIdleUnlessStopped (errand_of s question) q

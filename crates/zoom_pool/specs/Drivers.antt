@@ -21,7 +21,7 @@ use Rattle.zorigin.specs.Standings as origin
 use Rattle.zorigin.specs.Ranges.{are_ranges}
 use Rattle.zplan.specs.Ranges.{natural, positions, span_of, IsApart}
 use Rattle.zorigin.specs.Fitting.{records_in}
-use Rattle.zorigin.specs.Changes.{force_in, outcome_in, unanswered}
+use Rattle.zorigin.specs.Changes.{options_in_force, outcome_in, unanswered}
 use Rattle.zorigin.specs.Sending.{is_unsendable, search_request}
 use Rattle.zorigin.specs.Calls.{refusal}
 use Rattle.zorigin.specs.Replies.{verdict}
@@ -389,7 +389,7 @@ SendStep _ old new = new ≡ old
 
 -- the phase after the Init response
 abbrev pub opened_phase : Apdu → Phase
-opened_phase (apdus.InitResponse v) = phases.Opened (force_in v).present (force_in v).v3
+opened_phase (apdus.InitResponse v) = phases.Opened (options_in_force v).present (options_in_force v).v3
 opened_phase _ = phases.Closed
 
 -- the phase after the search response: Done if there is no count

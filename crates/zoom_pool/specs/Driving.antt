@@ -16,7 +16,7 @@ use Rattle.zorigin.specs.declared.refusal.Refused.{Refused}
 use Rattle.zorigin.specs.Standings.{Call, Init, Search, Present, Close}
 use Rattle.zplan.specs.Ranges.{natural, positions}
 use Rattle.zorigin.specs.Calls.{refusal}
-use Rattle.zorigin.specs.Changes.{force_in}
+use Rattle.zorigin.specs.Changes.{options_in_force}
 use Rattle.zorigin.specs.Fitting.{records_in}
 use Rattle.zorigin.specs.Replies.{verdict}
 use Rattle.zorigin.specs.Log.{Log, Made, Got, Past, past, standing, opening, force_after, asked}
@@ -52,7 +52,7 @@ counted true n = Some (natural n)
 
 -- an accepted reply, reduced to what decides the next request
 abbrev pub reply_for : Ask → Past → Apdu → Reply
-reply_for ask p (apdus.InitResponse v) = InitReply (v.result && can_search ask p) (force_in v).v3
+reply_for ask p (apdus.InitResponse v) = InitReply (v.result && can_search ask p) (options_in_force v).v3
 reply_for ask p (apdus.SearchResponse v) = SearchReply (counted (v.search_status && can_present p) v.result_count)
 reply_for ask p (apdus.PresentResponse v) = PresentReply (length (records_in v.records))
 reply_for ask p _ = PresentReply 0

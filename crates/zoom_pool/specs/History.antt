@@ -49,7 +49,7 @@ IsPending partial transcript q = (c : ℕ) × Contains partial c × IsPendingAt 
 
 -- The history can have left this pool. Each fact of the answers is known. A Take of each of the connections `partial`
 -- may have found no memory since its last message, so some facts of its next message may be known too; no others are.
-pub record AfterUpTo (settings : Settings) (partial : List ℕ) (h : History) (pool : Links) : Type 0 where
+pub record AfterPartial (settings : Settings) (partial : List ℕ) (h : History) (pool : Links) : Type 0 where
   pub transcript : ℕ → Transcript
   pub stands : AreTranscripts settings h transcript pool.connections
   pub has : (q : Fact) → IsKnown transcript q → Contains pool.knowledge q
@@ -59,7 +59,7 @@ pub record AfterUpTo (settings : Settings) (partial : List ℕ) (h : History) (p
 -- The history can have left this pool, and there is no such connection: the facts known are exactly those of the
 -- answers (`ExactLaw`).
 abbrev pub After : Settings → History → Links → Type 0
-After settings h pool = AfterUpTo settings [] h pool
+After settings h pool = AfterPartial settings [] h pool
 
 -- the connections of `partial` after a Take of `c`, which had this transcript: `c` is none of them any more, unless
 -- it was stopped before

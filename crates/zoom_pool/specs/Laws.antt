@@ -15,7 +15,7 @@ use Rattle.zoom_pool.specs.Inputs.{Input, IsBehind}
 use Rattle.zber.specs.declared.framer.TheConstants.{MESSAGE_LIMIT}
 use Rattle.zoom_pool.specs.Transcripts.{Event, Transcript, IsTranscript, NextInput, state_at, take_result}
 use Rattle.zoom_pool.specs.Links.{Links}
-use Rattle.zoom_pool.specs.History.{History, accepted, IsKnown, After, AfterUpTo}
+use Rattle.zoom_pool.specs.History.{History, accepted, IsKnown, After, AfterPartial}
 
 -- the events of a connection have one transcript
 abbrev pub OneTranscript : Type 0
@@ -47,7 +47,8 @@ pub record TakeLaws : Type 0 where
 abbrev pub UpToLaw : Type 0
 UpToLaw =
     (settings : Settings) (some more : List ℕ) (h : History) (pool : Links)
-    → ((c : ℕ) → Contains some c → Contains more c) → AfterUpTo settings some h pool → AfterUpTo settings more h pool
+    → ((c : ℕ) → Contains some c → Contains more c) → AfterPartial settings some h pool
+    → AfterPartial settings more h pool
 
 -- if no Take is left that found no memory, the facts known are exactly those of the accepted replies
 abbrev pub ExactLaw : Type 0

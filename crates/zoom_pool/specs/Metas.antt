@@ -14,7 +14,7 @@ use Rattle.zoom_pool.specs.States.{is_stopped}
 use Rattle.zoom_pool.specs.Inputs.{Input}
 use Rattle.zoom_pool.specs.Transcripts.{Transcript, IsTranscript, Event, Called, Took, after_take, outcome_of, past_of, state_at}
 use Rattle.zoom_pool.specs.Links.{Links}
-use Rattle.zoom_pool.specs.History.{History, events_on, AfterUpTo, partial_after}
+use Rattle.zoom_pool.specs.History.{History, events_on, AfterPartial, partial_after}
 use Rattle.zoom_questions.specs.Askable.{AreAskable, AreFit}
 use Rattle.zoom_pool.specs.Steering.{Errand, errand_with, errand_of, IsNextCall, IsTried, skipped_in, complete_in}
 use Rattle.zoom_pool.specs.Drivers.{DriverState, IsDriver, HasOpening, IsOffer, NoteReplyStep}
@@ -38,18 +38,18 @@ pub record AreDriven (questions : List Question) (s : MetaSettings) (h : History
 
 -- The history can have left the pool, and each connection is driven for its question. Some facts of the next messages
 -- of the connections `partial` may be known, as Takes of them found no memory.
-pub record MetaAfterUpTo
+pub record MetaAfterPartial
     (questions : List Question) (s : MetaSettings) (partial : List ℕ) (h : History) (meta : MetaLinks)
     : Type 0 where
   pub fit : AreFit s
   pub askable : AreAskable questions
-  pub pool : AfterUpTo (settings_of s) partial h meta.pool
+  pub pool : AfterPartial (settings_of s) partial h meta.pool
   pub driven : AreDriven questions s h meta.drivers
   pub size : length meta.pool.connections ≡ length questions
 
 -- the same, and no connection is in `partial`: no Take that found no memory is left to be completed
 abbrev pub MetaAfter : List Question → MetaSettings → History → MetaLinks → Type 0
-MetaAfter questions s h meta = MetaAfterUpTo questions s [] h meta
+MetaAfter questions s h meta = MetaAfterPartial questions s [] h meta
 
 -- each driver is new, for its question and an empty log
 abbrev pub AreNewDrivers : List Question → ℕ → ℕ → List DriverState → Type 0
@@ -63,21 +63,21 @@ AreNewDrivers _ step window _ = ⊥
 abbrev pub MetaRecorded : ℕ → Event → MetaLinks → MetaLinks → Type 0
 MetaRecorded c event old new =
     (questions : List Question) (s : MetaSettings) (partial : List ℕ) (h : History)
-    → MetaAfterUpTo questions s partial h old → MetaAfterUpTo questions s partial ((c, event) ∷ h) new
+    → MetaAfterPartial questions s partial h old → MetaAfterPartial questions s partial ((c, event) ∷ h) new
 
 -- each history that can have left `old`, with a Take of `c` added, can have left `new`; the Take completes an earlier
 -- one of `c` that found no memory, unless the connection is stopped
 abbrev pub MetaTakeStep : ℕ → MetaLinks → MetaLinks → Type 0
 MetaTakeStep c old new =
     (questions : List Question) (s : MetaSettings) (partial : List ℕ) (h : History)
-    (a : MetaAfterUpTo questions s partial h old)
-    → MetaAfterUpTo questions s (partial_after c (a.pool.transcript c) partial) ((c, Took) ∷ h) new
+    (a : MetaAfterPartial questions s partial h old)
+    → MetaAfterPartial questions s (partial_after c (a.pool.transcript c) partial) ((c, Took) ∷ h) new
 
 -- a Take of `c` found no memory: the history is unchanged
 abbrev pub MetaIncompleteTake : ℕ → MetaLinks → MetaLinks → Type 0
 MetaIncompleteTake c old new =
     (questions : List Question) (s : MetaSettings) (partial : List ℕ) (h : History)
-    → MetaAfterUpTo questions s partial h old → MetaAfterUpTo questions s (c ∷ partial) h new
+    → MetaAfterPartial questions s partial h old → MetaAfterPartial questions s (c ∷ partial) h new
 
 -- the driver agrees with the log after a Take with this outcome
 abbrev pub DriverTakeStep : Result Outcome TakeError → DriverState → DriverState → Type 0
@@ -110,7 +110,7 @@ pub record Progress
     (questions : List Question) (s : MetaSettings) (partial : List ℕ) (c : ℕ) (h : History) (n : ℕ) (new : MetaLinks)
     : Type 0 where
   pub calls : List Call
-  pub after : MetaAfterUpTo questions s partial (call_events c calls ++ h) new
+  pub after : MetaAfterPartial questions s partial (call_events c calls ++ h) new
   pub count : (p q : Transcript) → IsTranscript (settings_of s) (events_on c h) p
       → IsTranscript (settings_of s) (events_on c (call_events c calls ++ h)) q
       → length (past_of q).admitted ≡ length (past_of p).admitted + n
@@ -136,7 +136,7 @@ DriveResultAt questions s partial c h (Err e) new = (n : ℕ) × Progress questi
 abbrev pub DriveResult : {E : Type 0} → ℕ → Result ℕ E → MetaLinks → MetaLinks → Type 0
 DriveResult c result old new =
     (questions : List Question) (s : MetaSettings) (partial : List ℕ) (h : History)
-    → MetaAfterUpTo questions s partial h old → DriveResultAt questions s partial c h result new
+    → MetaAfterPartial questions s partial h old → DriveResultAt questions s partial c h result new
 
 -- ---- one call
 
@@ -165,7 +165,7 @@ AdvanceResultAt questions s partial c h (Err e) old new = Progress questions s p
 abbrev pub AdvanceResult : {E : Type 0} → ℕ → Result Advance E → MetaLinks → MetaLinks → Type 0
 AdvanceResult c result old new =
     (questions : List Question) (s : MetaSettings) (partial : List ℕ) (h : History)
-    → MetaAfterUpTo questions s partial h old → AdvanceResultAt questions s partial c h result old new
+    → MetaAfterPartial questions s partial h old → AdvanceResultAt questions s partial c h result old new
 
 -- the driver of the connection gave this call, and nothing stopped the connection
 abbrev pub IsGivenCall : List Question → MetaSettings → ℕ → History → Call → MetaLinks → Type 0
@@ -179,7 +179,7 @@ IsGivenCall questions s c h call meta =
 abbrev pub IssueResult : {E : Type 0} → ℕ → Call → Result Advance E → MetaLinks → MetaLinks → Type 0
 IssueResult c call result old new =
     (questions : List Question) (s : MetaSettings) (partial : List ℕ) (h : History)
-    → MetaAfterUpTo questions s partial h old → IsGivenCall questions s c h call old
+    → MetaAfterPartial questions s partial h old → IsGivenCall questions s c h call old
     → AdvanceResultAt questions s partial c h result old new
 
 -- ---- results about one connection
@@ -194,7 +194,7 @@ IsTranscriptValue c meta value result =
 abbrev pub IsTranscriptValueUpTo : ℕ → MetaLinks → (Transcript → Bool) → Bool → Type 0
 IsTranscriptValueUpTo c meta value result =
     (questions : List Question) (s : MetaSettings) (partial : List ℕ) (h : History) (p : Transcript)
-    → MetaAfterUpTo questions s partial h meta → IsTranscript (settings_of s) (events_on c h) p → result ≡ value p
+    → MetaAfterPartial questions s partial h meta → IsTranscript (settings_of s) (events_on c h) p → result ≡ value p
 
 -- the search was skipped
 abbrev pub is_skipped : Transcript → Bool
@@ -216,7 +216,7 @@ IsFinished meta result =
 abbrev pub IsFinishedUpTo : MetaLinks → Bool → Type 0
 IsFinishedUpTo meta result =
     (questions : List Question) (s : MetaSettings) (partial : List ℕ) (h : History)
-    → MetaAfterUpTo questions s partial h meta
+    → MetaAfterPartial questions s partial h meta
     → (result ≡ true) ↔ ((c : ℕ) (p : Transcript) → c < length questions
     → IsTranscript (settings_of s) (events_on c h) p
     → is_stopped (state_at p) ≡ true)

@@ -21,7 +21,7 @@ use Rattle.zoom_pool.specs.declared.step.TakeError.TheVariants as errors
 use Rattle.zoom_pool.specs.Links.{Link}
 use Rattle.zoom_pool.specs.Inputs.{Input, Message, IsReadAs}
 use Rattle.zber.specs.declared.framer.TheConstants.{MESSAGE_LIMIT}
-use Rattle.zoom_pool.specs.Transcripts.{Transcript, Event, NextInput, after_stop, after_take, outcome_of, connection_call_result, news_at, reason_of, IsNews, IsDone}
+use Rattle.zoom_pool.specs.Transcripts.{Transcript, Event, NextInput, after_stop, after_take, outcome_of, connection_call_result, news_at, reason_of, IsNews, HasFoundMemory}
 use Rattle.zoom_pool.specs.Connections.{FramerAfter, AreConsistent, ConnectionAfter}
 
 -- the log after this input: it has the message, if there is one
@@ -104,7 +104,8 @@ held_after (Err error) e old = held_for (reason_of error) e old
 -- unless no memory is found, the message in the element is processed
 abbrev pub ProcessStep : ℕ → Element → Result Outcome TakeError → Standing → Standing → List Fact → List Fact → Type 0
 ProcessStep target e result old new knew knows =
-    (p : Transcript) → OriginAfter p.settings p.log old → IsDone result → MessageStep target p e result new knew knows
+    (p : Transcript) → OriginAfter p.settings p.log old → HasFoundMemory result
+    → MessageStep target p e result new knew knows
 
 -- if no memory is found, some facts of the message, and no others, were added
 abbrev pub PartialProcessStep : ℕ → Element → Result Outcome TakeError → Standing → List Fact → List Fact → Type 0
@@ -115,7 +116,7 @@ PartialProcessStep target e result old knew knows =
 -- unless no memory is found, this is what a Take does
 abbrev pub LinkTakeStep : ℕ → Result Outcome TakeError → Link → Link → List Fact → List Fact → Type 0
 LinkTakeStep target result old new knew knows =
-    (p : Transcript) → AreConsistent p old → IsDone result → TakeResult target p result new knew knows
+    (p : Transcript) → AreConsistent p old → HasFoundMemory result → TakeResult target p result new knew knows
 
 -- if no memory is found, some facts that the Take adds, and no others, were added
 abbrev pub PartialTake : ℕ → Result Outcome TakeError → Link → List Fact → List Fact → Type 0

@@ -259,6 +259,6 @@ reason_of errors.Memory = None
 -- ---- results that missing memory does not decide
 
 -- memory was found: the result is not `Memory`, and may be another refusal
-abbrev pub IsDone : {A : Type 0} → Result A TakeError → Type 0
-IsDone (Ok x) = Unit {0}
-IsDone (Err error) = error ≢ errors.Memory
+abbrev pub HasFoundMemory : {A : Type 0} → Result A TakeError → Type 0
+HasFoundMemory (Ok x) = Unit {0}
+HasFoundMemory (Err error) = error ≢ errors.Memory

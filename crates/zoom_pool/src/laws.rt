@@ -35,7 +35,7 @@ pub fn take_laws()
 }
 
 /// A history that can have left a pool, after takes of some connections that found no memory, can also have left it
-/// after such takes of those and of others (`AfterUpTo`).
+/// after such takes of those and of others (`AfterPartial`).
 pub fn up_to()
     ensures { UpToLaw }
 {}
@@ -76,7 +76,7 @@ pub fn meta_laws()
 
 /// What a driven connection sends is decided by its history. At most one call is the driver's, and a Present has the
 /// fewest ranges. Two drives after the same history that return `Ok` send the same requests in the same order. Takes
-/// that found no memory may be left to be completed (`MetaAfterUpTo`).
+/// that found no memory may be left to be completed (`MetaAfterPartial`).
 pub fn drive_laws()
     ensures { DriveLaws }
 {

@@ -2,7 +2,7 @@
 ghost use Rattle.std.specs.Prelude.{◌≡◌, ◌<◌, ◌≤◌, ◌^◌, [], ◌++◌, length, OnOk, OnErr, IfOk, Some, Err};
 ghost use Rattle.zoom_pool.specs.declared.state.State.TheVariants as states;
 ghost use Rattle.zoom_pool.specs.CallsOf.{call_of};
-ghost use Rattle.zoom_pool.specs.Transcripts.{Fed, InputEnded, HandedOut, Stopped, IsDone};
+ghost use Rattle.zoom_pool.specs.Transcripts.{Fed, InputEnded, HandedOut, Stopped, HasFoundMemory};
 ghost use Rattle.zoom_pool.specs.Learned.{AreStillKnown};
 ghost use Rattle.zoom_pool.specs.Links.{waiting_at, stop_at, IsStopAt, SameOthers, SameElse};
 ghost use Rattle.zoom_pool.specs.PoolSteps.{IsStateAt, IsTakeResult, HasHandedOutAll};
@@ -189,7 +189,7 @@ impl Meta {
         requires { c < length self.old.pool.connections }
         // if memory is found
         ensures returned { IsTakeResult c self.old.pool result }
-        ensures after { IsDone result → MetaTakeStep c self.old self.new }
+        ensures after { HasFoundMemory result → MetaTakeStep c self.old self.new }
         // if no memory is found
         ensures memory { result ≡ Err TakeError.Memory → MetaIncompleteTake c self.old self.new }
         // in each case

@@ -3,7 +3,7 @@ ghost use Rattle.std.specs.Prelude.{◌≡◌, ◌<◌, [], ◌++◌, length, On
 ghost use Rattle.zorigin.specs.Log.{IsMadeCall};
 ghost use Rattle.zoom_pool.specs.declared.state.State.TheVariants as states;
 ghost use Rattle.zoom_pool.specs.CallsOf.{call_of};
-ghost use Rattle.zoom_pool.specs.Transcripts.{Called, Fed, InputEnded, HandedOut, Stopped, IsDone};
+ghost use Rattle.zoom_pool.specs.Transcripts.{Called, Fed, InputEnded, HandedOut, Stopped, HasFoundMemory};
 ghost use Rattle.zoom_pool.specs.Learned.{AreStillKnown};
 ghost use Rattle.zoom_pool.specs.Links.{waiting_at, stop_at, IsStopAt, SameOthers, SameElse};
 ghost use Rattle.zoom_pool.specs.History.{After};
@@ -129,7 +129,7 @@ impl Pool {
         requires { c < length self.old.connections }
         // if memory is found
         ensures returned { IsTakeResult c self.old result }
-        ensures after { IsDone result → TakeStep c self.old self.new }
+        ensures after { HasFoundMemory result → TakeStep c self.old self.new }
         // if no memory is found
         ensures memory { result ≡ Err TakeError.Memory → IncompleteTake c self.old self.new }
         // in each case
@@ -148,7 +148,7 @@ impl Pool {
         requires { c < length self.old.connections }
         // if memory is found
         ensures returned { IsTakeOutcome c self.old result }
-        ensures after { IsDone result → TakeStep c self.old self.new }
+        ensures after { HasFoundMemory result → TakeStep c self.old self.new }
         // if no memory is found
         ensures memory { result ≡ Err TakeError.Memory → IncompleteTake c self.old self.new }
         // in each case

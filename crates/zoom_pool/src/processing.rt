@@ -4,7 +4,7 @@ ghost use Rattle.zknow.specs.Tables.Join.{IsPartOfUnion};
 ghost use Rattle.zorigin.specs.Log.{After, IsAcceptedReply};
 ghost use Rattle.zoom_pool.specs.Inputs.{Message};
 ghost use Rattle.zoom_pool.specs.Learned.{IsRead, AreStillKnown};
-ghost use Rattle.zoom_pool.specs.Transcripts.{Transcript, outcome_of_reply, news_at, IsDone};
+ghost use Rattle.zoom_pool.specs.Transcripts.{Transcript, outcome_of_reply, news_at, HasFoundMemory};
 ghost use Rattle.zoom_pool.specs.Steps.{InputStep, ProcessStep, PartialProcessStep};
 
 use crate::learning::learn_verdict;
@@ -36,7 +36,7 @@ fn process_reply(
 ) -> Result<Outcome, TakeError>
     requires { IsRead reply.now }
     // if memory is found
-    ensures done { (p : Transcript) → After p.settings p.log origin.old → IsDone result
+    ensures done { (p : Transcript) → After p.settings p.log origin.old → HasFoundMemory result
         → InputStep target p (Message reply.now) result origin.new knowledge.old knowledge.new }
     // if no memory is found
     ensures memory { result ≡ Err TakeError.Memory → origin.new ≡ origin.old }

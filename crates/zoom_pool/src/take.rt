@@ -5,7 +5,7 @@ ghost use Rattle.zoom_pool.specs.declared.state.State.TheVariants as states;
 ghost use Rattle.zoom_pool.specs.declared.state.Reason.TheVariants as reasons;
 ghost use Rattle.zoom_pool.specs.States.{is_stopped, is_going};
 ghost use Rattle.zber.specs.declared.framer.TheConstants.{MESSAGE_LIMIT};
-ghost use Rattle.zoom_pool.specs.Transcripts.{Transcript, state_at, IsDone};
+ghost use Rattle.zoom_pool.specs.Transcripts.{Transcript, state_at, HasFoundMemory};
 ghost use Rattle.zoom_pool.specs.Learned.{AreStillKnown};
 ghost use Rattle.zoom_pool.specs.Connections.{FramerAfter, AreConsistent};
 ghost use Rattle.zoom_pool.specs.Steps.{NextMessage, EmptyTake, LinkTakeStep, PartialTake, LinkIncompleteTake, stop_after, held_after};
@@ -57,12 +57,12 @@ impl Connection {
     fn lack(&mut self) -> Result<Outcome, TakeError>
         // no message has come
         requires asked { self.old.framer.asked ≡ true }
-        requires sound { self.old.framer.fault ≡ None }
+        requires no_fault { self.old.framer.fault ≡ None }
         requires none { self.old.held ≡ None }
         // the result
         ensures returned { (p : Transcript) → AreConsistent p self.old → is_stopped (state_at p) ≡ false
             → IsUnfinished MESSAGE_LIMIT self.old.framer.octets → EmptyTake p result self.new }
-        ensures done { IsDone result }
+        ensures done { HasFoundMemory result }
         // what is unchanged
         ensures waiting { self.new.waiting ≡ self.old.waiting }
     {

@@ -20,7 +20,7 @@ use Rattle.zoom_pool.specs.declared.step.TakeError.{TakeError}
 use Rattle.zoom_pool.specs.States.{is_stopped}
 use Rattle.zoom_pool.specs.PoolSteps.{IsTakeResult}
 use Rattle.zoom_pool.specs.Inputs.{Input, AlreadyStopped, Message, Foreign, Fault, Rest, Nothing}
-use Rattle.zoom_pool.specs.Transcripts.{Event, Called, Took, InputEnded, Transcript, IsTranscript, NextInput, IsDone, given, fed, state_at, past_of, after_take, take_result, take_result_of_verdict, step_of_taken, is_message, after_reply, after_call}
+use Rattle.zoom_pool.specs.Transcripts.{Event, Called, Took, InputEnded, Transcript, IsTranscript, NextInput, HasFoundMemory, given, fed, state_at, past_of, after_take, take_result, take_result_of_verdict, step_of_taken, is_message, after_reply, after_call}
 use Rattle.zoom_pool.specs.History.{History, events_on}
 use Rattle.zoom_pool.specs.Hosts.{Holdings, HostEvent, HostState, holdings_of}
 use Rattle.zoom_pool.specs.Laws.{OneTranscript, TakeLaws, IsWaiting}
@@ -38,7 +38,7 @@ use Rattle.zoom_sim.proofs.RunLosses.{quiet_append, quiet_calls}
 
 -- there is an input, and this is its result
 pub takes_at : OneTranscript → (c : ℕ) (old new : MetaLinks) (answer : Result Step TakeError) (taken : Bool)
-    → c < length old.pool.connections → IsTakeResult c old.pool answer → IsDone answer → MetaTakeStep c old new
+    → c < length old.pool.connections → IsTakeResult c old.pool answer → HasFoundMemory answer → MetaTakeStep c old new
     → is_taken answer ≡ taken → TakeOneStep c taken old new
 takes_at uniqueness c old new answer taken there value_is done took is questions s h p a transcript =
     let now = transcript_at (settings_of s) h a.pool.transcript old.pool.connections c a.pool.stands there in

@@ -18,7 +18,7 @@ use zoom_pool::{Meta, Reason, State, Step, TakeError};
 /// Makes the calls that are due on connection `c`.
 fn drive(meta: &mut Meta, c: u32) -> Result<(), AllocError>
     requires { c < length meta.old.pool.connections }
-    ensures on { OnOk result (SilentStep meta.old meta.new) }
+    ensures silent { OnOk result (SilentStep meta.old meta.new) }
     ensures at { OnOk result (DriveOneStep c meta.old meta.new) }
     ensures own { OnOk result (DrivenStep c meta.old meta.new) }
     ensures size { length meta.new.pool.connections ≡ length meta.old.pool.connections }
@@ -40,7 +40,7 @@ fn is_message(step: Step) -> bool
 /// Takes the next message of connection `c`. Returns whether there was one that was accepted.
 fn take_one(meta: &mut Meta, c: u32) -> Result<bool, AllocError>
     requires { c < length meta.old.pool.connections }
-    ensures on { OnOk result (SilentStep meta.old meta.new) }
+    ensures silent { OnOk result (SilentStep meta.old meta.new) }
     ensures at { IfOk result (λ taken. TakeOneStep c taken meta.old meta.new) }
     ensures own { OnOk result (DrivenStep c meta.old meta.new) }
     ensures size { length meta.new.pool.connections ≡ length meta.old.pool.connections }
@@ -59,7 +59,7 @@ fn take_one(meta: &mut Meta, c: u32) -> Result<bool, AllocError>
 pub(crate) fn take_all(meta: &mut Meta, c: u32) -> Result<(), AllocError>
     requires { c < length meta.old.pool.connections }
     // on success
-    ensures on { OnOk result (SilentStep meta.old meta.new) }
+    ensures silent { OnOk result (SilentStep meta.old meta.new) }
     ensures all { OnOk result (TakeAllStep c meta.old meta.new) }
     ensures adds { OnOk result (QuietStep c meta.old meta.new) }
     ensures own { OnOk result (DrivenStep c meta.old meta.new) }
@@ -84,7 +84,7 @@ pub(crate) fn take_all(meta: &mut Meta, c: u32) -> Result<(), AllocError>
 /// unchanged.
 pub fn drive_all(meta: &mut Meta) -> Result<(), AllocError>
     requires { length meta.old.pool.connections < 2 ^ 32 }
-    ensures on { OnOk result (SilentStep meta.old meta.new) }
+    ensures silent { OnOk result (SilentStep meta.old meta.new) }
     ensures starts { OnOk result (DriveAllStep (length meta.old.pool.connections) meta.old meta.new) }
     ensures own { OnOk result (AllInTurn DrivenStep meta.old meta.new) }
     ensures size { length meta.new.pool.connections ≡ length meta.old.pool.connections }
@@ -117,7 +117,7 @@ fn is_over(meta: &Meta, c: u32) -> bool
 /// If connection `c` is not finished, ends its input and takes the messages that are left.
 fn end_input(meta: &mut Meta, c: u32) -> Result<(), AllocError>
     requires { c < length meta.old.pool.connections }
-    ensures on { OnOk result (SilentStep meta.old meta.new) }
+    ensures silent { OnOk result (SilentStep meta.old meta.new) }
     ensures unfinished_only { OnOk result (UnfinishedOnlyStep meta.old meta.new) }
     ensures own { OnOk result (EndUnlessOver c meta.old meta.new) }
     ensures size { length meta.new.pool.connections ≡ length meta.old.pool.connections }
@@ -132,7 +132,7 @@ fn end_input(meta: &mut Meta, c: u32) -> Result<(), AllocError>
 /// Ends the input of connection `c`, and takes once. It is for a connection of which each whole message was taken.
 pub(crate) fn end_taken(meta: &mut Meta, c: u32) -> Result<(), AllocError>
     requires { c < length meta.old.pool.connections }
-    ensures on { OnOk result (SilentStep meta.old meta.new) }
+    ensures silent { OnOk result (SilentStep meta.old meta.new) }
     ensures ends { OnOk result (EndInputStep c meta.old meta.new) }
     ensures own { OnOk result (InputEndsStep c meta.old meta.new) }
     ensures size { length meta.new.pool.connections ≡ length meta.old.pool.connections }
@@ -145,7 +145,7 @@ pub(crate) fn end_taken(meta: &mut Meta, c: u32) -> Result<(), AllocError>
 /// Ends the input of each connection that is not finished, and takes the messages that are left.
 pub(crate) fn end_inputs(meta: &mut Meta) -> Result<(), AllocError>
     requires { length meta.old.pool.connections < 2 ^ 32 }
-    ensures on { OnOk result (SilentStep meta.old meta.new) }
+    ensures silent { OnOk result (SilentStep meta.old meta.new) }
     ensures unfinished_only { OnOk result (UnfinishedOnlyStep meta.old meta.new) }
     ensures own { OnOk result (AllInTurn EndUnlessOver meta.old meta.new) }
     ensures size { length meta.new.pool.connections ≡ length meta.old.pool.connections }
@@ -159,7 +159,7 @@ pub(crate) fn end_inputs(meta: &mut Meta) -> Result<(), AllocError>
 /// If the channel failed, stops connection `c` for that reason; otherwise changes nothing.
 pub(crate) fn stop_for(meta: &mut Meta, c: u32, failure: Option<Reason>)
     requires { c < length meta.old.pool.connections }
-    ensures on { SilentStep meta.old meta.new }
+    ensures silent { SilentStep meta.old meta.new }
     ensures stops { FailureStep c failure meta.old meta.new }
     ensures same { failure ≡ None → meta.new ≡ meta.old }
     ensures size { length meta.new.pool.connections ≡ length meta.old.pool.connections }

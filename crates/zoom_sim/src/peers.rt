@@ -131,7 +131,7 @@ impl Peer {
     fn end_where_stopped(&self, meta: &mut Meta, c: u32) -> Result<(), AllocError>
         requires { c < length meta.old.pool.connections }
         // on success
-        ensures on { OnOk result (SilentStep meta.old meta.new) }
+        ensures silent { OnOk result (SilentStep meta.old meta.new) }
         // if nothing waits at the target
         ensures steps { self.now.host.waiting ≡ []
             → OnOk result (PeerStep c true true true meta.old meta.new self.now self.now) }

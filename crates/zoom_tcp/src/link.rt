@@ -69,7 +69,7 @@ impl<'a, C: Clock, S: OpenStream + Drop> TcpLink<'a, C, S> {
     pub fn new(clock: &'a C, stream: S) -> io::Result<TcpLink<'a, C, S>>
         ensures stream { IfOk result (λ link. link.source.inner.stream ≡ stream) }
         ensures begun { IfOk result (λ link. link.sink.inner.begun ≡ link.source.inner.begun) }
-        ensures sound { IfOk result (λ link. (link.source.failures ≡ 0) × (link.sink.failures ≡ 0)) }
+        ensures no_failure { IfOk result (λ link. (link.source.failures ≡ 0) × (link.sink.failures ≡ 0)) }
     {
         set_limits(&stream)?;
         let begun = Instant::now(clock)?;
@@ -93,7 +93,7 @@ pub(crate) fn set_limits<S: OpenStream>(stream: &S) -> io::Result<()> {
 fn timed_device<C, S>(clock: &C, begun: Instant, stream: S) -> Counting<Timed<'_, C, S>>
     ensures stream { result.inner.stream ≡ stream }
     ensures begun { result.inner.begun ≡ begun }
-    ensures sound { result.failures ≡ 0 }
+    ensures no_failure { result.failures ≡ 0 }
 {
     Counting::new(Timed {
         clock,

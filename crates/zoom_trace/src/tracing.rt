@@ -25,7 +25,7 @@ impl<W> Tracer<W> {
     pub fn new(alloc: Global, sink: W) -> Tracer<W>
         ensures sink { result.sink ≡ sink }
         ensures lines { result.lines.items ≡ [] }
-        ensures sound { result.has_failed ≡ false }
+        ensures no_failure { result.has_failed ≡ false }
     {
         Tracer {
             sink,

@@ -20,7 +20,7 @@ use Rattle.zorigin.specs.declared.state.State.{State}
 use Rattle.zorigin.specs.declared.state.State.TheVariants as states
 use Rattle.zorigin.specs.Standings.{Call, Init, Search, Present, Close, Standing, is_fresh, is_ready, search_of}
 use Rattle.zorigin.specs.Calls.{early_refusal, refusal, call_result}
-use Rattle.zorigin.specs.Changes.{admitted_at, admitted_unless, called_at, unanswered, force_in}
+use Rattle.zorigin.specs.Changes.{admitted_at, admitted_unless, called_at, unanswered, options_in_force}
 use Rattle.zorigin.specs.Log.{Made, Log, Past, past, operation_of, asked, is_answer_to, is_answered, outstanding, opening, is_init_call, is_close_call, state_by, opened_state, closing_state, state_from, state_of, force_after, outcome_by, search_in, with_outcome, searches_in, by_operation, by_set, op_of, standing, admit, admit_unless, After}
 use Rattle.zorigin.proofs.Operations.{has, or_none, or_last, any_ops, any_filter, insert_absent, find_none}
 use Rattle.zorigin.proofs.Searches.{file_absent}
@@ -80,7 +80,7 @@ init_state None false closing closes begun (Some a) h = absurd (never a.reply h)
 
     never : (reply : Apdu) → is_fresh (closing_state closing (state_by reply)) ≡ true → ⊥
     never (apdus.InitRequest v) e = cc
-    never (apdus.InitResponse v) e = opened v.result closing (force_in v).v3 (force_in v).concurrent (force_in v).named e
+    never (apdus.InitResponse v) e = opened v.result closing (options_in_force v).v3 (options_in_force v).concurrent (options_in_force v).named e
     never (apdus.SearchRequest v) e = cc
     never (apdus.SearchResponse v) e = cc
     never (apdus.PresentRequest v) e = cc

@@ -12,7 +12,7 @@ use Rattle.zorigin.specs.declared.refusal.CallRefused.{CallRefused}
 use Rattle.zorigin.specs.declared.refusal.CallRefused.TheVariants as refused
 use Rattle.zorigin.specs.declared.state.Searched.{Searched}
 use Rattle.zorigin.specs.Standings.{Call, Init, Search, Present, Close, Standing, is_ready, search_of}
-use Rattle.zorigin.specs.Sending.{is_unsendable, init_request, search_request, present_request, close_request, request_of, IsSendResult}
+use Rattle.zorigin.specs.Sending.{is_unsendable, init_request, search_request, present_request, close_request, request_of, IsEncodedApdu}
 use Rattle.zorigin.specs.Fitting.{first_row}
 use Rattle.zorigin.specs.Calls.{wrong_state, not_offered, op_used, set_unknown, set_not_ready, set_replaced, unsendable, early_rows, early_refusal, refusal, or_unsendable, call_result_by, call_result, is_unsendable_request, IsSendResultFor}
 use Rattle.zorigin.specs.Changes.{admitted_at, called_at, admitted_unless}
@@ -39,10 +39,10 @@ pub record IsReady (s : Standing) (c : Call) (apdu : Apdu) : Type 0 where
   pub request : request_of s c ≡ Some apdu
   pub sendable : unsendable s c ≡ is_unsendable apdu
 
-sends : (s : Standing) (c : Call) (apdu : Apdu) (r : Result Sent CallRefused) → IsReady s c apdu → IsSendResultFor s c r → IsSendResult apdu r
+sends : (s : Standing) (c : Call) (apdu : Apdu) (r : Result Sent CallRefused) → IsReady s c apdu → IsSendResultFor s c r → IsEncodedApdu apdu r
 sends s c apdu r ready h = rw ready.request at h
 
-not_sent : (s : Standing) (c : Call) (apdu : Apdu) (reason : CallRefused) → IsReady s c apdu → IsSendResult apdu (Err reason) → reason ≢ refused.Memory → Comes s c (Err reason) s
+not_sent : (s : Standing) (c : Call) (apdu : Apdu) (reason : CallRefused) → IsReady s c apdu → IsEncodedApdu apdu (Err reason) → reason ≢ refused.Memory → Comes s c (Err reason) s
 not_sent s c apdu refused.Unsendable ready h m = comes s c (Some refused.Unsendable) (refused_late s c true ready.early (ready.sendable ∙ h))
 not_sent s c apdu refused.Memory ready h m = absurd (m refl)
 not_sent s c apdu _ ready h m = absurd h

@@ -22,7 +22,7 @@ use Rattle.zorigin.specs.Facts.{has_valid_ranges}
 use Rattle.zorigin.specs.Standings.{Call, Init, Search, Present, Close, Standing, is_open, is_ready}
 use Rattle.zorigin.specs.Sending.{init_request, search_request, close_request, request_of}
 use Rattle.zorigin.specs.Calls.{refusal, early_refusal, or_unsendable, unsendable, call_result_by}
-use Rattle.zorigin.specs.Changes.{force_in}
+use Rattle.zorigin.specs.Changes.{options_in_force}
 use Rattle.zorigin.specs.Replies.{verdict}
 use Rattle.zorigin.specs.Log.{Made, Got, Log, Past, past, operation_of, asked, is_answer_to, is_init, is_opening, opening, is_init_call, is_close_call, state_by, closing_state, state_from, state_of, searches_in, op_of, standing, admit, admit_unless, after_verdict}
 use Rattle.zorigin.specs.Laws.{searched_set, answered_op, IsAcceptance, HasAssociation, IsOrderly, HasRequest}
@@ -129,7 +129,7 @@ init_what (what.Present ranges) h = absurd (true≢false (sym h))
 
 -- Ready is said only by a response that accepts
 ready_accepts : (closing : Bool) (reply : Apdu) → is_ready (closing_state closing (state_by reply)) ≡ true → IsAcceptance reply
-ready_accepts closing (apdus.InitResponse v) h = by v.result closing (force_in v).v3 (force_in v).concurrent (force_in v).named h
+ready_accepts closing (apdus.InitResponse v) h = by v.result closing (options_in_force v).v3 (options_in_force v).concurrent (options_in_force v).named h
   where
     by : (b c v3 concurrent named : Bool) → is_ready (closing_state c (cond b (states.Ready v3 concurrent named) states.Closed)) ≡ true → b ≡ true
     by true c v3 concurrent named e = refl

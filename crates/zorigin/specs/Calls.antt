@@ -14,7 +14,7 @@ use Rattle.zorigin.specs.Standings.{Call, Init, Search, Present, Close, Standing
 use Rattle.zorigin.specs.Fitting.{first_row, is_empty}
 use Rattle.zorigin.specs.Ranges.{are_ranges, is_past}
 use Rattle.zplan.specs.Ranges.{positions}
-use Rattle.zorigin.specs.Sending.{request_of, is_unsendable, sent_of, IsSendResult}
+use Rattle.zorigin.specs.Sending.{request_of, is_unsendable, sent_of, IsEncodedApdu}
 
 -- Init is not called in Fresh, or another call not in Ready
 abbrev pub wrong_state : Standing → Call → Bool
@@ -153,7 +153,7 @@ call_result s call = call_result_by (refusal s call) (request_of s call)
 -- the result of sending the request of a call, memory aside
 abbrev pub IsSendResultOf : Option Apdu → Result Sent CallRefused → Type 0
 IsSendResultOf None result = result ≡ Err refused.SetUnknown
-IsSendResultOf (Some apdu) result = IsSendResult apdu result
+IsSendResultOf (Some apdu) result = IsEncodedApdu apdu result
 
 -- the result of sending the request of a call on an origin, memory aside
 abbrev pub IsSendResultFor : Standing → Call → Result Sent CallRefused → Type 0

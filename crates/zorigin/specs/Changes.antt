@@ -71,8 +71,8 @@ called_at s call = admitted_unless s call (refusal s call)
 
 -- what a response to Init puts in force: the options and the version that it has, by the bits of Options and of
 -- ProtocolVersion (Z39.50-2003, 4.1); a bit that is left out is not set
-abbrev pub force_in : InitResponse → InForce
-force_in v = record {
+abbrev pub options_in_force : InitResponse → InForce
+options_in_force v = record {
   search = slice_index_or v.options 0 false;
   present = slice_index_or v.options 1 false;
   v3 = slice_index_or v.protocol_version 2 false;
@@ -107,7 +107,7 @@ without_operation s op = record s { outstanding = shift_remove_entry (nat_eq op)
 
 -- the origin after a response to Init that accepts the association
 abbrev pub opened_at : Standing → Apdu → Standing
-opened_at s (apdus.InitResponse v) = record s { state = ready (force_in v); force = force_in v }
+opened_at s (apdus.InitResponse v) = record s { state = ready (options_in_force v); force = options_in_force v }
 opened_at s _ = s
 
 -- The origin after a refused APDU: it has failed for the reason, and is otherwise unchanged. After `WrongState` and

@@ -25,7 +25,7 @@ use Rattle.zorigin.specs.Standings.{Call, Init, Search, Present, Close, Standing
 use Rattle.zorigin.specs.Sending.{request_of}
 use Rattle.zorigin.specs.Calls.{early_refusal, refusal, call_result}
 use Rattle.zorigin.specs.Replies.{verdict, HasAnswer}
-use Rattle.zorigin.specs.Changes.{init_asked, search_asked, present_asked, unanswered, force_in, outcome_in}
+use Rattle.zorigin.specs.Changes.{init_asked, search_asked, present_asked, unanswered, options_in_force, outcome_in}
 
 -- A call that was made, or an APDU that was taken. A call or take whose result is `Memory` makes no entry.
 pub data Entry : Type 0 where
@@ -109,7 +109,7 @@ is_close_call _ = false
 
 -- what the reply to Init puts in force
 abbrev pub force_by : Apdu → InForce
-force_by (apdus.InitResponse v) = if v.result then force_in v else nothing_in_force
+force_by (apdus.InitResponse v) = if v.result then options_in_force v else nothing_in_force
 force_by _ = nothing_in_force
 
 -- what is in force after the reply to Init; nothing while it has not come
@@ -119,7 +119,7 @@ force_after (Some answer) = force_by answer.reply
 
 -- the state that the reply to Init leads to: Ready if it accepts the association, else Closed
 abbrev pub state_by : Apdu → State
-state_by (apdus.InitResponse v) = if v.result then ready (force_in v) else states.Closed
+state_by (apdus.InitResponse v) = if v.result then ready (options_in_force v) else states.Closed
 state_by _ = states.Closed
 
 -- Fresh if no Init was admitted; Initialising while it is unanswered; then what its reply says

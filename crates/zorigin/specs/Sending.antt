@@ -187,8 +187,8 @@ abbrev pub IsEncodeResult : Element → Result (List ℕ) CallRefused → Type 0
 IsEncodeResult n result = IsSentUnless (too_large (Some n)) (canonical n) result
 
 -- the APDU with its octets, or `Unsendable` exactly if it has none that can be sent; of `Memory` nothing is said
-abbrev pub IsSendResult : Apdu → Result Sent CallRefused → Type 0
-IsSendResult apdu result = IsSentUnless (is_unsendable apdu) (sent_of apdu) result
+abbrev pub IsEncodedApdu : Apdu → Result Sent CallRefused → Type 0
+IsEncodedApdu apdu result = IsSentUnless (is_unsendable apdu) (sent_of apdu) result
 
 -- ---- the receiver reads what was sent
 

@@ -3,7 +3,7 @@ ghost use Rattle.std.specs.Prelude.{◌≡◌, ◌==◌, Ok, Err, IfOk};
 ghost use Rattle.std.specs.Option.{option_map};
 ghost use Rattle.zorigin.specs.Standings.{is_open, ready};
 ghost use Rattle.zorigin.specs.Replies.{only_of, named, taken_as, against, verdict, HasAnswer};
-ghost use Rattle.zorigin.specs.Changes.{force_in, outcome_in, noted_if, noted, without_operation, opened_at, refused_at, settled_at, AfterRefusal};
+ghost use Rattle.zorigin.specs.Changes.{options_in_force, outcome_in, noted_if, noted, without_operation, opened_at, refused_at, settled_at, AfterRefusal};
 ghost use Rattle.zorigin.specs.Facts.{HasFitAnswer};
 ghost use Rattle.zorigin.specs.Log.{IsGivenVerdict, IsResultOfTake, IsAcceptedReply, IsJudgement, OriginAfterTake, OriginAfterJudgement};
 
@@ -32,8 +32,8 @@ fn is_open(state: State) -> bool
 /// Returns the options and the version that a response to Init puts in force. Of Options these are the bits search 0,
 /// present 1, concurrentOperations 13 and namedResultSets 14; of ProtocolVersion version 3 is bit 2 (Z39.50-2003, 4.1).
 /// A bit that is left out is not set.
-fn force_in(response: &InitResponse) -> InForce
-    ensures { result ≡ force_in response.now }
+fn options_in_force(response: &InitResponse) -> InForce
+    ensures { result ≡ options_in_force response.now }
 {
     InForce {
         search: response.options.bit(0),
@@ -195,7 +195,7 @@ impl Origin {
         ensures { self.new ≡ opened_at self.old reply.now }
     {
         if let Apdu::InitResponse(response) = reply {
-            self.force = force_in(response);
+            self.force = options_in_force(response);
             self.state = ready(self.force);
         }
     }

@@ -1,6 +1,6 @@
 //! APDUs and their octets.
 ghost use Rattle.std.specs.Prelude.{IfOk};
-ghost use Rattle.zorigin.specs.Sending.{IsEncodeResult, IsSendResult, IsFramed, IsReadBack};
+ghost use Rattle.zorigin.specs.Sending.{IsEncodeResult, IsEncodedApdu, IsFramed, IsReadBack};
 
 use crate::answer::Sent;
 use crate::refusal::CallRefused;
@@ -27,7 +27,7 @@ fn encode(alloc: Global, node: &Node) -> Result<Bytes, CallRefused>
 /// constructed elements, or more octets than the limit. Returns `Memory` if no memory is found.
 #[tactic(auto, unfolding(crate::specs::Sending::is_unsendable, crate::specs::Sending::encoding_of))]
 pub(crate) fn send(alloc: Global, apdu: Apdu) -> Result<Sent, CallRefused>
-    ensures exact { IsSendResult apdu result }
+    ensures exact { IsEncodedApdu apdu result }
     ensures framed { IfOk result IsReadBack }
 {
     match to_node(alloc, &apdu) {

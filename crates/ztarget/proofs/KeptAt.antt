@@ -7,7 +7,7 @@ use Rattle.std.specs.Option.{IsSome, option_map}
 use Rattle.ztarget.specs.declared.database.Entry.{Entry}
 use Rattle.ztarget.specs.declared.database.Database.{Database}
 use Rattle.ztarget.specs.declared.found.Hit.{Hit}
-use Rattle.ztarget.specs.declared.searched.Numbered.{Numbered}
+use Rattle.ztarget.specs.declared.searched_databases.Numbered.{Numbered}
 use Rattle.ztarget.specs.Counting.{kept_in, kept_by}
 use Rattle.ztarget.specs.Keeping.{hit, entry_in, entry_at, AreHits, no_entry, found_at, all_found_at, AreAt, IsNumberedDatabase, databases_of, hits_in, hits_by}
 use Rattle.ztarget.specs.Searching.{Found, kept_entry, places_from}

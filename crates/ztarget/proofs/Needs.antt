@@ -3,7 +3,7 @@ use Rattle.std.proofs.Common.{◌≡◌, refl, sym, ◌∙◌, ℕ, List, [], Bo
 use Rattle.std.proofs.lemmas.Bool.{true≢false}
 use Rattle.std.specs.Prelude.{IfSome}
 use Rattle.ztarget.specs.declared.database.Entry.{Entry}
-use Rattle.ztarget.specs.declared.needed.Needed.{Needed}
+use Rattle.ztarget.specs.declared.needed_words.Needed.{Needed}
 use Rattle.ztarget.specs.Asking.{HasPhrase, is_satisfied}
 use Rattle.ztarget.specs.Merging.{merged}
 use Rattle.ztarget.specs.Narrowing.{IsNarrowed, IsNeeded, rarer}

@@ -8,7 +8,7 @@ use Rattle.zapdu.specs.declared.productions.record.Record.{Record}
 use Rattle.ztarget.specs.declared.database.Entry.{Entry}
 use Rattle.ztarget.specs.declared.database.Database.{Database}
 use Rattle.ztarget.specs.declared.found.Hit.{Hit}
-use Rattle.ztarget.specs.declared.searched.Numbered.{Numbered}
+use Rattle.ztarget.specs.declared.searched_databases.Numbered.{Numbered}
 use Rattle.ztarget.specs.Searching.{Found, kept_entry, places_from}
 use Rattle.ztarget.specs.Showing.{shown_record}
 use Rattle.ztarget.specs.Standing.{NamedSet}

@@ -4,7 +4,7 @@ use Rattle.std.specs.Prelude.{Bool, true, false, ◌&&◌, nat_eq, nat_le, Optio
 use Rattle.std.specs.List.{list_any}
 use Rattle.ztarget.specs.declared.database.Entry.{Entry}
 use Rattle.ztarget.specs.declared.index.Place.{Place}
-use Rattle.ztarget.specs.declared.needed.Needed.{Needed}
+use Rattle.ztarget.specs.declared.needed_words.Needed.{Needed}
 use Rattle.ztarget.specs.Asking.{HasPhrase, is_satisfied}
 use Rattle.ztarget.specs.Indexing.{is_searched_place}
 use Rattle.ztarget.specs.Searching.{places_from}

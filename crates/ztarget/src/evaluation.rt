@@ -8,15 +8,15 @@ ghost use Rattle.ztarget.specs.Narrowing.{IsNarrowed, IsNeeded};
 ghost use Rattle.ztarget.specs.Searching.{places_from};
 ghost use Rattle.ztarget.specs.TargetStates.{criterion_meaning};
 
-use crate::common::{are_few, in_both};
+use crate::common_places::{are_few, in_both};
 use crate::criterion::Criterion;
 use crate::database::Entry;
 use crate::index::Index;
 use crate::merging::{IN_EITHER, IN_FIRST_ALONE, merged};
 use crate::narrowed::narrowed_places;
-use crate::needed::{Needed, needed_by, rarer};
+use crate::needed_words::{Needed, needed_by, rarer};
 use crate::phrase::with_phrase;
-use crate::shared::SharedPlaces;
+use crate::shared_places::SharedPlaces;
 use crate::word::Word;
 use std::alloc::{AllocError, Global};
 use std::collections::BTreeMap;

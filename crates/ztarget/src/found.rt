@@ -9,7 +9,7 @@ ghost use Rattle.ztarget.specs.Searching.{entries_in, places_from};
 
 use crate::criterion::Criterion;
 use crate::indexed::Indexed;
-use crate::searched::Numbered;
+use crate::searched_databases::Numbered;
 use std::alloc::{AllocError, Global};
 
 /// An entry that a search found: the number of its database among those of the target, and its own number in that

@@ -9,7 +9,7 @@ use crate::criterion::Criterion;
 use crate::database::{Database, Entry};
 use crate::evaluation::Evaluation;
 use crate::index::{Index, index_of};
-use crate::shared::SharedPlaces;
+use crate::shared_places::SharedPlaces;
 use bytes::Bytes;
 use std::alloc::{AllocError, Global};
 use std::marker::Model;

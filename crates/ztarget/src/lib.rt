@@ -1,7 +1,7 @@
 //! A target of Z39.50 with databases in memory. It owes each request one reply, which its definition states.
 #![tactic(auto)]
 
-mod common;
+mod common_places;
 mod criterion;
 mod database;
 mod decimal;
@@ -18,7 +18,7 @@ pub mod laws;
 mod matching;
 mod merging;
 mod narrowed;
-mod needed;
+mod needed_words;
 mod phase;
 mod phrase;
 mod positions;
@@ -28,10 +28,10 @@ mod record;
 mod result_set;
 mod search;
 mod search_fault;
-mod searched;
+mod searched_databases;
 mod sets;
 mod settings;
-mod shared;
+mod shared_places;
 mod target;
 mod word;
 mod words;

@@ -14,7 +14,7 @@ use crate::error::MatchError;
 use crate::fault::{Fault, match_fault};
 use crate::found::{Hit, hits, places};
 use crate::indexed::Indexed;
-use crate::searched::searched;
+use crate::searched_databases::searched;
 use bytes::Bytes;
 use std::alloc::{AllocError, Global};
 use zapdu::{SearchQuery, SearchRequest};

@@ -97,7 +97,7 @@ impl Loading {
 
     /// Reads one fact more. Returns the fault of its element, or `Memory`.
     fn load_fact(&mut self, alloc: Global, file: &[u8]) -> Result<(), LoadError>
-        requires sound { IsLoadedUpTo file.now self.old }
+        requires loaded { IsLoadedUpTo file.now self.old }
         requires more { self.old.at < length file.now }
         ensures ok { OnOk result (IsLoadedUpTo file.now self.new) }
         ensures further { OnOk result (self.old.at < self.new.at) }

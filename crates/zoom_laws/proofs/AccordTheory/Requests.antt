@@ -21,7 +21,7 @@ use Rattle.zorigin.specs.Standings.{Call, Init, Search, Present, Close, Standing
 use Rattle.zorigin.specs.Sending.{init_request, search_request, request_of}
 use Rattle.zorigin.specs.Calls.{refusal}
 use Rattle.zorigin.specs.Replies.{verdict}
-use Rattle.zorigin.specs.Changes.{force_in}
+use Rattle.zorigin.specs.Changes.{options_in_force}
 use Rattle.zorigin.specs.Laws.{IsOrderly}
 use Rattle.zorigin.specs.Log.{Log, Made, Got, Past, past, operation_of, asked, is_init, is_opening, opening, is_init_call, is_close_call, state_by, closing_state, state_from, state_of, standing, request_list, admit_unless, after_verdict}
 use Rattle.zorigin.proofs.Members.{contained, among, any_in, find_in}
@@ -58,7 +58,7 @@ ready_so None false closing begun (Some x) h = by x.reply refl h
     by : (reply : Apdu) → x.reply ≡ reply → is_ready (closing_state closing (state_by reply)) ≡ true
         → IsAccepting (Some x) × (closing ≡ false)
     by (apdus.InitResponse v) e g =
-        let t = either v.result closing (force_in v).v3 (force_in v).concurrent (force_in v).named g in
+        let t = either v.result closing (options_in_force v).v3 (options_in_force v).concurrent (options_in_force v).named g in
         (record { answer = x; is = refl; response = v; reply = e; result = t.0 }, t.1)
     by (apdus.InitRequest v) e g = absurd (true≢false (sym g))
     by (apdus.SearchRequest v) e g = absurd (true≢false (sym g))
@@ -84,7 +84,7 @@ fresh_so None false closing begun (Some x) h = absurd (never x.reply h)
     never : (reply : Apdu) → is_fresh (closing_state closing (state_by reply)) ≡ true → ⊥
     never (apdus.InitRequest v) e = cc
     never (apdus.InitResponse v) e =
-        opened v.result closing (force_in v).v3 (force_in v).concurrent (force_in v).named e
+        opened v.result closing (options_in_force v).v3 (options_in_force v).concurrent (options_in_force v).named e
     never (apdus.SearchRequest v) e = cc
     never (apdus.SearchResponse v) e = cc
     never (apdus.PresentRequest v) e = cc
@@ -98,8 +98,8 @@ open_so closing o (inl e) = ap (λ x. is_open (state_from None false closing tru
 open_so closing o (inr a) =
     ap (λ x. is_open (state_from None false closing true x)) a.is
     ∙ ap (λ r. is_open (closing_state closing (state_by r))) a.reply
-    ∙ ap (λ b. is_open (closing_state closing (cond b (ready (force_in a.response)) states.Closed))) a.result
-    ∙ elim closing as (λ c. is_open (closing_state c (ready (force_in a.response))) ≡ true)
+    ∙ ap (λ b. is_open (closing_state closing (cond b (ready (options_in_force a.response)) states.Closed))) a.result
+    ∙ elim closing as (λ c. is_open (closing_state c (ready (options_in_force a.response))) ≡ true)
     [ true ↦ refl | false ↦ refl ]
 
 -- the Init operation is that of the call of Init

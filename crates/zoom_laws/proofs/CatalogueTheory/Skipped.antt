@@ -41,8 +41,8 @@ use Rattle.zoom_laws.proofs.ExchangeTheory.Tried.{tried}
 use Rattle.zoom_laws.proofs.ScheduleTheory.Openings.{init_replied}
 use Rattle.zoom_laws.proofs.ScheduleTheory.Replies.{kept_call, kept_reply}
 use Rattle.zoom_laws.proofs.CatalogueTheory.Standings.{accepts, find_in, OpenedSo, ready}
-use Rattle.zoom_laws.proofs.CatalogueTheory.Replied.{opened}
-use Rattle.zoom_laws.proofs.CatalogueTheory.Brought.{init_accepted, plan_driven, talked}
+use Rattle.zoom_laws.proofs.CatalogueTheory.OperationReplies.{opened}
+use Rattle.zoom_laws.proofs.CatalogueTheory.CompleteFacts.{init_accepted, plan_driven, talked}
 
 -- ---- a search that is refused
 

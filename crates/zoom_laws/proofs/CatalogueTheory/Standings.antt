@@ -21,7 +21,7 @@ use Rattle.zorigin.specs.declared.refusal.Refused.{Refused}
 use Rattle.zorigin.specs.declared.state.State.{State as OriginState}
 use Rattle.zorigin.specs.declared.state.State.TheVariants as states
 use Rattle.zorigin.specs.declared.state.InForce.{InForce}
-use Rattle.zorigin.specs.Changes.{force_in}
+use Rattle.zorigin.specs.Changes.{options_in_force}
 use Rattle.zorigin.specs.Standings.{Call, Init, Search, Present, Close, is_fresh, is_ready, nothing_in_force}
 use Rattle.zorigin.specs.Sending.{init_value, init_request, search_value, search_request, present_value, set_name, close_value}
 use Rattle.zorigin.specs.Calls.{refusal}
@@ -150,7 +150,7 @@ unfresh_by : (reply : Apdu) → is_fresh (state_by reply) ≡ true → ⊥
 unfresh_by (apdus.InitResponse v) e = by v.result e
   where
     by : (b : Bool) → is_fresh
-        (cond b (states.Ready (force_in v).v3 (force_in v).concurrent (force_in v).named) states.Closed) ≡ true → ⊥
+        (cond b (states.Ready (options_in_force v).v3 (options_in_force v).concurrent (options_in_force v).named) states.Closed) ≡ true → ⊥
     by true f = cc
     by false f = cc
 unfresh_by (apdus.InitRequest v) e = cc

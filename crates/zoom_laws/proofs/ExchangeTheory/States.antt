@@ -17,7 +17,7 @@ use Rattle.zorigin.specs.declared.refusal.Refused.{Refused}
 use Rattle.zorigin.specs.declared.state.State.{State as OriginState}
 use Rattle.zorigin.specs.declared.state.State.TheVariants as origins
 use Rattle.zorigin.specs.Standings.{Call, Init, Search, Present, Close, ready}
-use Rattle.zorigin.specs.Changes.{force_in}
+use Rattle.zorigin.specs.Changes.{options_in_force}
 use Rattle.zorigin.specs.Fitting.{IsFitReply}
 use Rattle.zorigin.specs.Log.{state_from, state_by, closing_state, is_opening, is_init, is_init_call, is_answer_to}
 use Rattle.zoom_pool.specs.declared.state.State.TheVariants as states
@@ -39,8 +39,8 @@ stops_by : (closing : Bool) (reply : Apdu) → is_stopped (state_as (closing_sta
 stops_by closing (apdus.InitRequest v) s = tt
 stops_by closing (apdus.InitResponse v) s =
     elim v.result as (λ b. is_stopped
-    (state_as (closing_state closing (cond b (ready (force_in v)) origins.Closed))) ≡ true → b ≡ false) [
-      | true ↦ elim closing as (λ c. is_stopped (state_as (closing_state c (ready (force_in v)))) ≡ true
+    (state_as (closing_state closing (cond b (ready (options_in_force v)) origins.Closed))) ≡ true → b ≡ false) [
+      | true ↦ elim closing as (λ c. is_stopped (state_as (closing_state c (ready (options_in_force v)))) ≡ true
           → true ≡ false) [
             | true ↦ λ e. sym e
             | false ↦ λ e. sym e
@@ -117,9 +117,9 @@ as_closing (origins.Failed reason) e = absurd (cc)
 by_reply : (closing : Bool) (reply : Apdu) → closing_state closing (state_by reply) ≡ origins.Initialising → ⊥
 by_reply closing (apdus.InitRequest v) s = absurd (cc)
 by_reply closing (apdus.InitResponse v) s =
-    elim v.result as (λ b. closing_state closing (cond b (ready (force_in v)) origins.Closed) ≡ origins.Initialising
+    elim v.result as (λ b. closing_state closing (cond b (ready (options_in_force v)) origins.Closed) ≡ origins.Initialising
     → ⊥) [
-      | true ↦ elim closing as (λ c. closing_state c (ready (force_in v)) ≡ origins.Initialising → ⊥) [
+      | true ↦ elim closing as (λ c. closing_state c (ready (options_in_force v)) ≡ origins.Initialising → ⊥) [
         | true ↦ λ e. absurd (cc)
         | false ↦ λ e. absurd (cc)
       ]
@@ -143,7 +143,7 @@ initialising None false closing begun (Some a) e = absurd (by_reply closing a.re
 by_closing : (reply : Apdu) → closing_state false (state_by reply) ≡ origins.Closing → ⊥
 by_closing (apdus.InitRequest v) s = absurd (cc)
 by_closing (apdus.InitResponse v) s =
-    elim v.result as (λ b. closing_state false (cond b (ready (force_in v)) origins.Closed) ≡ origins.Closing → ⊥) [
+    elim v.result as (λ b. closing_state false (cond b (ready (options_in_force v)) origins.Closed) ≡ origins.Closing → ⊥) [
       | true ↦ λ e. absurd (cc)
       | false ↦ λ e. absurd (cc)
     ] s

@@ -19,7 +19,7 @@ use Rattle.zorigin.specs.declared.answer.Taken.{Taken}
 use Rattle.zorigin.specs.declared.answer.Taken.TheVariants as taken
 use Rattle.zorigin.specs.declared.refusal.CallRefused.{CallRefused}
 use Rattle.zorigin.specs.declared.refusal.Refused.{Refused}
-use Rattle.zorigin.specs.Changes.{force_in}
+use Rattle.zorigin.specs.Changes.{options_in_force}
 use Rattle.zorigin.specs.Standings.{Call, is_open}
 use Rattle.zorigin.specs.Calls.{refusal}
 use Rattle.zorigin.specs.Replies.{verdict}
@@ -132,9 +132,9 @@ module _ (ask : Ask) (wanted : List ℕ) (step : ℕ) (settings : Settings)
   opens_nothing p (apdus.InitResponse v) refused = by v.result refused
     where
       by : (b : Bool) → not b ≡ true
-          → (three : Bool) × (InitReply (b && can_search ask p) (force_in v).v3 ≡ InitReply false three)
+          → (three : Bool) × (InitReply (b && can_search ask p) (options_in_force v).v3 ≡ InitReply false three)
       by true k = absurd cc
-      by false k = ((force_in v).v3, refl)
+      by false k = ((options_in_force v).v3, refl)
   opens_nothing p (apdus.InitRequest v) refused = absurd cc
   opens_nothing p (apdus.SearchRequest v) refused = absurd cc
   opens_nothing p (apdus.SearchResponse v) refused = absurd cc

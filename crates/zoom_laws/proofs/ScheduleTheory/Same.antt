@@ -16,7 +16,7 @@ use Rattle.zorigin.specs.declared.answer.Answer.{Answer}
 use Rattle.zorigin.specs.Replies.{verdict}
 use Rattle.zorigin.specs.Fitting.{IsFitReply, records_in}
 use Rattle.zorigin.specs.Accepts.{IsAccepted}
-use Rattle.zorigin.specs.Changes.{force_in}
+use Rattle.zorigin.specs.Changes.{options_in_force}
 use Rattle.zorigin.specs.Log.{Log, Got, Past, past, standing, opening, is_opening, is_init, force_after}
 use Rattle.zorigin.specs.Laws.{IsOrderly}
 use Rattle.zoom_pool.specs.Driving.{operation_for, reply_for, can_search, can_present, counted, events_of, IsDrivenLog}
@@ -29,7 +29,7 @@ use Rattle.zoom_laws.proofs.ScheduleTheory.Openings.{init_replied, at_opening, s
 -- ---- a reply, by what is in force
 
 abbrev reply_by : Bool → Bool → Apdu → Reply
-reply_by search present (apdus.InitResponse v) = InitReply (v.result && search) (force_in v).v3
+reply_by search present (apdus.InitResponse v) = InitReply (v.result && search) (options_in_force v).v3
 reply_by search present (apdus.SearchResponse v) = SearchReply (counted (v.search_status && present) v.result_count)
 reply_by search present (apdus.PresentResponse v) = PresentReply (length (records_in v.records))
 reply_by search present _ = PresentReply 0

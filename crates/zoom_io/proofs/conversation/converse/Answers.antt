@@ -30,7 +30,7 @@ returns-then-branch g c =
           (g.R.Source.state c.args.source.now) (g.R.Source.state c.loop.source) (g.W.Sink.state c.args.sink.now)
           (g.W.Sink.state c.loop.sink) (g.W.Sink.state c.settle.new.sink) (omega (arith, few)) c.loop.invariant.0
           c.loop.invariant.1 c.in_ok-settle.field-0 c.in_ok-settle.ensures.settles c.if-branch.true;
-      sound = tt;
+      no_failure = tt;
       others = others_more c.args.c c.args.meta.now.pool c.loop.meta.pool c.settle.new.meta.pool c.loop.invariant.2
           c.settle.ensures.others;
     }
@@ -181,16 +181,16 @@ returns-clause-others g c =
     c.settle-2.ensures.others)
     (else_others c.args.c c.settle-2.new.meta.pool c.stop.new.self.pool c.stop.ensures.rest)
 
-pub returns-in_err-settle-clause-sound : goal.returns-in_err-settle-clause-sound
-returns-in_err-settle-clause-sound g c =
+pub returns-in_err-settle-clause-no_failure : goal.returns-in_err-settle-clause-no_failure
+returns-in_err-settle-clause-no_failure g c =
     let p = err_from_is_err_and c.from_residual.result c.from_residual.ensures.1 in
     let b = c.loop.invariant.0 in
     subst (λ z. IfTalkMemory z (HasNoFailure (g.R.Source.state c.args.source.now) (g.R.Source.state c.loop.source)
     × HasNoFailure (g.W.Sink.state c.args.sink.now) (g.W.Sink.state c.settle.new.sink))) (sym (p.1 ∙ ap Err p.2))
-    (push_to_talk Bool (Unit {0}) c.in_err-settle.field-0.0 (λ f. (b.reader, f ∙ b.writer)) c.in_err-settle.ensures.sound)
+    (push_to_talk Bool (Unit {0}) c.in_err-settle.field-0.0 (λ f. (b.reader, f ∙ b.writer)) c.in_err-settle.ensures.no_failure)
 
-pub returns-in_err-listen-clause-sound : goal.returns-in_err-listen-clause-sound
-returns-in_err-listen-clause-sound g c =
+pub returns-in_err-listen-clause-no_failure : goal.returns-in_err-listen-clause-no_failure
+returns-in_err-listen-clause-no_failure g c =
     let p = err_from_is_err_and c.from_residual-in_err-listen.result c.from_residual-in_err-listen.ensures.1 in
     let b = c.loop.invariant.0 in
     let sink = g.W.Sink.state c.loop.sink in
@@ -199,10 +199,10 @@ returns-in_err-listen-clause-sound g c =
     c.in_ok-settle.ensures.settles in
     subst (λ z. IfTalkMemory z (HasNoFailure (g.R.Source.state c.args.source.now) (g.R.Source.state c.listen.new.source)
     × HasNoFailure (g.W.Sink.state c.args.sink.now) held)) (sym (p.1 ∙ ap Err p.2))
-    (talk_memory Bool (Unit {0}) c.in_err-listen.field-0.0 (λ f. (f ∙ b.reader, written ∙ b.writer)) c.in_err-listen.ensures.sound)
+    (talk_memory Bool (Unit {0}) c.in_err-listen.field-0.0 (λ f. (f ∙ b.reader, written ∙ b.writer)) c.in_err-listen.ensures.no_failure)
 
-pub returns-then-not-branch-clause-sound : goal.returns-then-not-branch-clause-sound
-returns-then-not-branch-clause-sound g c =
+pub returns-then-not-branch-clause-no_failure : goal.returns-then-not-branch-clause-no_failure
+returns-then-not-branch-clause-no_failure g c =
     let b = c.loop.invariant.0 in
     let sink = g.W.Sink.state c.loop.sink in
     let held = g.W.Sink.state c.settle.new.sink in
@@ -213,10 +213,10 @@ returns-then-not-branch-clause-sound g c =
     c.if-not-branch.true in
     if_talk c.finish.result (read ∙ b.reader, written ∙ b.writer)
 
-pub returns-in_err-settle-2-clause-sound : goal.returns-in_err-settle-2-clause-sound
-returns-in_err-settle-2-clause-sound g c =
+pub returns-in_err-settle-2-clause-no_failure : goal.returns-in_err-settle-2-clause-no_failure
+returns-in_err-settle-2-clause-no_failure g c =
     let p = err_from_is_err_and c.from_residual-in_err-settle-2.result c.from_residual-in_err-settle-2.ensures.1 in
     let b = c.loop.invariant.0 in
     subst (λ z. IfTalkMemory z (HasNoFailure (g.R.Source.state c.args.source.now) (g.R.Source.state c.loop.source)
     × HasNoFailure (g.W.Sink.state c.args.sink.now) (g.W.Sink.state c.settle-2.new.sink))) (sym (p.1 ∙ ap Err p.2))
-    (push_to_talk Bool (Unit {0}) c.in_err-settle-2.field-0.0 (λ f. (b.reader, f ∙ b.writer)) c.in_err-settle-2.ensures.sound)
+    (push_to_talk Bool (Unit {0}) c.in_err-settle-2.field-0.0 (λ f. (b.reader, f ∙ b.writer)) c.in_err-settle-2.ensures.no_failure)

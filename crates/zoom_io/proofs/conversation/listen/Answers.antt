@@ -37,5 +37,5 @@ pub returns-in_err-feed-in-Ok-clause-others : goal.returns-in_err-feed-in-Ok-cla
 returns-in_err-feed-in-Ok-clause-others g c =
     else_others c.args.c c.args.meta.now.pool c.feed.new.self.pool c.feed.ensures.rest
 
-pub returns-in_err-feed-in-Ok-clause-sound : goal.returns-in_err-feed-in-Ok-clause-sound
-returns-in_err-feed-in-Ok-clause-sound g c = if_talk c.from_residual.result c.in-Ok.ensures.reads.count
+pub returns-in_err-feed-in-Ok-clause-no_failure : goal.returns-in_err-feed-in-Ok-clause-no_failure
+returns-in_err-feed-in-Ok-clause-no_failure g c = if_talk c.from_residual.result c.in-Ok.ensures.reads.count

@@ -78,13 +78,13 @@ returns-in-Over-clause-others g c =
     others_more c.args.c c.args.meta.now.pool c.loop.meta.pool c.send_and_take.new.meta.pool c.loop.invariant.1
     c.send_and_take.ensures.others
 
-pub returns-in_err-send_and_take-clause-sound : goal.returns-in_err-send_and_take-clause-sound
-returns-in_err-send_and_take-clause-sound g c =
+pub returns-in_err-send_and_take-clause-no_failure : goal.returns-in_err-send_and_take-clause-no_failure
+returns-in_err-send_and_take-clause-no_failure g c =
     let p = err_from_is_err_and c.from_residual.result c.from_residual.ensures.1 in
     let sink = g.W.Sink.state c.args.sink.now in
     subst (λ z. IfPushMemory z (HasNoFailure sink (g.W.Sink.state c.send_and_take.new.sink))) (sym (p.1 ∙ ap Err p.2))
     (push_memory Receipt Bool c.in_err-send_and_take.field-0.0 (λ f. f ∙ (c.loop.invariant.0 sink).step.writer)
-    c.in_err-send_and_take.ensures.sound)
+    c.in_err-send_and_take.ensures.no_failure)
 
-pub returns-clause-sound : goal.returns-clause-sound
-returns-clause-sound g c = (c.loop.invariant.0 (g.W.Sink.state c.args.sink.now)).step.writer
+pub returns-clause-no_failure : goal.returns-clause-no_failure
+returns-clause-no_failure g c = (c.loop.invariant.0 (g.W.Sink.state c.args.sink.now)).step.writer

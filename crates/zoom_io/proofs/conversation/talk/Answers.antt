@@ -23,17 +23,22 @@ pub returns-in_default : goal.returns-in_default
 returns-in_default g c =
     let talks = ends_refused c.args.c c.args.turns c.in-Err.error c.args.meta.now c.converse.new.meta _ _ _ _
     c.in_default.not-Memory c.in-Err.ensures.talks in
-    record { talks = talks; sound = c.in-Err.ensures.sound; stopped = talks.stopped; others = c.converse.ensures.others }
+    record {
+      talks = talks;
+      no_failure = c.in-Err.ensures.no_failure;
+      stopped = talks.stopped;
+      others = c.converse.ensures.others;
+    }
 
 pub returns-in-Memory-clause-others : goal.returns-in-Memory-clause-others
 returns-in-Memory-clause-others g c =
     others_more c.args.c c.args.meta.now.pool c.converse.new.meta.pool c.stop.new.self.pool c.converse.ensures.others
     (else_others c.args.c c.converse.new.meta.pool c.stop.new.self.pool c.stop.ensures.rest)
 
-pub returns-in-Memory-clause-sound : goal.returns-in-Memory-clause-sound
-returns-in-Memory-clause-sound g c =
+pub returns-in-Memory-clause-no_failure : goal.returns-in-Memory-clause-no_failure
+returns-in-Memory-clause-no_failure g c =
     subst
     (λ z. IfTalkMemory {A = Unit {0}} (Err z) (HasNoFailure (g.R.Source.state c.args.source.now)
     (g.R.Source.state c.converse.new.source)
     × HasNoFailure (g.W.Sink.state c.args.sink.now) (g.W.Sink.state c.converse.new.sink)))
-    c.in-Memory.is c.in-Err.ensures.sound
+    c.in-Memory.is c.in-Err.ensures.no_failure

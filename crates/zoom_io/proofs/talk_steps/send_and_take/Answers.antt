@@ -32,7 +32,7 @@ returns-clause-others g c =
     others_more c.args.c c.args.meta.now.pool c.send_due.new.meta.pool c.take_message.new.meta.pool
     c.send_due.ensures.others c.take_message.ensures.others
 
-pub returns-in_err-take_message-clause-sound : goal.returns-in_err-take_message-clause-sound
-returns-in_err-take_message-clause-sound g c =
+pub returns-in_err-take_message-clause-no_failure : goal.returns-in_err-take_message-clause-no_failure
+returns-in_err-take_message-clause-no_failure g c =
     if_push c.from_residual-in_err-take_message.result
     (c.in_ok-send_due.ensures.after (g.W.Sink.state c.args.sink.now)).step.writer

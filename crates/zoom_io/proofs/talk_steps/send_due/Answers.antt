@@ -33,10 +33,10 @@ returns-clause-others g c =
     (else_more c.args.c c.args.meta.now.pool c.drive.new.self.pool c.push.new.meta.pool c.drive.ensures.rest
     c.push.ensures.rest)
 
-pub returns-in_err-drive-clause-sound : goal.returns-in_err-drive-clause-sound
-returns-in_err-drive-clause-sound g c = if_push c.from_residual.result refl
+pub returns-in_err-drive-clause-no_failure : goal.returns-in_err-drive-clause-no_failure
+returns-in_err-drive-clause-no_failure g c = if_push c.from_residual.result refl
 
-pub returns-clause-sound : goal.returns-clause-sound
-returns-clause-sound g c =
+pub returns-clause-no_failure : goal.returns-clause-no_failure
+returns-clause-no_failure g c =
     pushed_soundly c.args.c c.push.result c.drive.new.self c.push.new.meta (g.W.Sink.state c.args.sink.now)
     (g.W.Sink.state c.push.new.sink) c.push.ensures.pushes

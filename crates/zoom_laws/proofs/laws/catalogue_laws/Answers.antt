@@ -1,4 +1,4 @@
-use Rattle.zoom_laws.proofs.CatalogueTheory.Brought.{catalogue_law, unasked_law}
+use Rattle.zoom_laws.proofs.CatalogueTheory.CompleteFacts.{catalogue_law, unasked_law}
 use Rattle.zoom_laws.proofs.CatalogueTheory.Skipped.{skipped_law}
 use Rattle.zoom_laws.proofs.laws.catalogue_laws.Goals as goal
 

@@ -1,4 +1,4 @@
-use Rattle.zoom_pool.proofs.Kept.{refused_reply}
+use Rattle.zoom_pool.proofs.DriverAgreement.{refused_reply}
 use Rattle.zoom_pool.proofs.driver.refused_law.Goals as goal
 
 pub returns : goal.returns

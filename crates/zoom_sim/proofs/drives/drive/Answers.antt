@@ -4,8 +4,8 @@ use Rattle.zoom_sim.proofs.RunSilentSteps.{drove_goes}
 use Rattle.zoom_sim.proofs.RunMoves.{drove_driven}
 use Rattle.zoom_sim.proofs.drives.drive.Goals as goal
 
-pub returns-clause-on : goal.returns-clause-on
-returns-clause-on c = drove_goes {E = AllocError} c.args.c (Ok c.in_ok-drive.field-0) c.args.meta.now c.drive.new.self
+pub returns-clause-silent : goal.returns-clause-silent
+returns-clause-silent c = drove_goes {E = AllocError} c.args.c (Ok c.in_ok-drive.field-0) c.args.meta.now c.drive.new.self
     c.in_ok-drive.ensures.after
 
 pub returns-clause-at : goal.returns-clause-at

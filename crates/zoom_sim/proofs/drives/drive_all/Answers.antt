@@ -9,7 +9,7 @@ loop-c-init c = (goes_same c.args.meta.now, starts_none c.args.meta.now, refl, n
 
 pub loop-c-preserved : goal.loop-c-preserved
 loop-c-preserved c = (
-  goes_trans c.args.meta.now c.loop-c.meta c.drive.new.meta c.loop-c.invariant.0 c.in_ok-drive.ensures.on,
+  goes_trans c.args.meta.now c.loop-c.meta c.drive.new.meta c.loop-c.invariant.0 c.in_ok-drive.ensures.silent,
   starts_more c.exchange_laws.ensures c.take_laws.ensures c.one_transcript.ensures c.loop-c.c c.args.meta.now c.loop-c.meta
       c.drive.new.meta c.loop-c.invariant.1 c.in_ok-drive.ensures.at,
   c.drive.ensures.size ∙ c.loop-c.invariant.2,

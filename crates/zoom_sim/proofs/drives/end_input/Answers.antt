@@ -8,10 +8,10 @@ use Rattle.zoom_sim.proofs.RunTakes.{adds_trans, quiet_adds}
 use Rattle.zoom_sim.proofs.RunUnfinished.{adds_spares, recorded_quiet}
 use Rattle.zoom_sim.proofs.drives.end_input.Goals as goal
 
-pub returns-clause-on : goal.returns-clause-on
-returns-clause-on c = IfOk-weaker c.take_all.result _ _ (λ _ g.
+pub returns-clause-silent : goal.returns-clause-silent
+returns-clause-silent c = IfOk-weaker c.take_all.result _ _ (λ _ g.
     goes_trans c.args.meta.now c.end.new.self c.take_all.new.meta
-    (recorded_silent c.args.c InputEnded c.args.meta.now c.end.new.self tt c.end.ensures.after) g) c.take_all.ensures.on
+    (recorded_silent c.args.c InputEnded c.args.meta.now c.end.new.self tt c.end.ensures.after) g) c.take_all.ensures.silent
 
 pub returns-clause-unfinished_only : goal.returns-clause-unfinished_only
 returns-clause-unfinished_only c = IfOk-weaker c.take_all.result _ _ (λ _ more.

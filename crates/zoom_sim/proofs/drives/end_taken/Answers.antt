@@ -3,11 +3,11 @@ use Rattle.zoom_sim.proofs.RunSilentSteps.{goes_trans, recorded_silent}
 use Rattle.zoom_sim.proofs.RunTakes.{ended_take}
 use Rattle.zoom_sim.proofs.drives.end_taken.Goals as goal
 
-pub returns-clause-on : goal.returns-clause-on
-returns-clause-on c =
+pub returns-clause-silent : goal.returns-clause-silent
+returns-clause-silent c =
     goes_trans c.args.meta.now c.end.new.self c.take_one.new.meta
     (recorded_silent c.args.c InputEnded c.args.meta.now c.end.new.self tt c.end.ensures.after)
-    c.in_ok-take_one.ensures.on
+    c.in_ok-take_one.ensures.silent
 
 pub returns-clause-ends : goal.returns-clause-ends
 returns-clause-ends c =

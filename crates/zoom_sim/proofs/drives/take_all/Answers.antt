@@ -13,9 +13,9 @@ loop-count-init c = (
   driven_same c.args.c c.args.meta.now,
 )
 
-pub returns-then-not-branch-clause-on : goal.returns-then-not-branch-clause-on
-returns-then-not-branch-clause-on c =
-    goes_trans c.args.meta.now c.loop-count.meta c.take_one.new.meta c.loop-count.invariant.0 c.in_ok-take_one.ensures.on
+pub returns-then-not-branch-clause-silent : goal.returns-then-not-branch-clause-silent
+returns-then-not-branch-clause-silent c =
+    goes_trans c.args.meta.now c.loop-count.meta c.take_one.new.meta c.loop-count.invariant.0 c.in_ok-take_one.ensures.silent
 
 pub returns-then-not-branch-clause-all : goal.returns-then-not-branch-clause-all
 returns-then-not-branch-clause-all c =
@@ -35,7 +35,7 @@ pub loop-count-preserved : goal.loop-count-preserved
 loop-count-preserved c = (
   goes_trans c.args.meta.now c.take_one.new.meta c.drive.new.meta
       (goes_trans c.args.meta.now c.loop-count.meta c.take_one.new.meta c.loop-count.invariant.0
-      c.in_ok-take_one.ensures.on) c.in_ok-drive.ensures.on,
+      c.in_ok-take_one.ensures.silent) c.in_ok-drive.ensures.silent,
   take_steps_more c.exchange_laws.ensures c.take_laws.ensures c.one_transcript.ensures c.args.c c.loop-count._count
       c.args.meta.now c.loop-count.meta c.loop-count.invariant.1 c.take_one.new.meta c.drive.new.meta
       (subst (λ n. c.args.c < n) (sym c.loop-count.invariant.2) c.requires)
@@ -47,8 +47,8 @@ loop-count-preserved c = (
       c.in_ok-take_one.ensures.own) c.in_ok-drive.ensures.own,
 )
 
-pub returns-clause-on : goal.returns-clause-on
-returns-clause-on c = c.loop-count.invariant.0
+pub returns-clause-silent : goal.returns-clause-silent
+returns-clause-silent c = c.loop-count.invariant.0
 
 pub returns-clause-all : goal.returns-clause-all
 returns-clause-all c =

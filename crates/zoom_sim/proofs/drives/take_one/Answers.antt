@@ -4,8 +4,8 @@ use Rattle.zoom_sim.proofs.RunTakes.{takes_at}
 use Rattle.zoom_sim.proofs.RunMoves.{took_driven}
 use Rattle.zoom_sim.proofs.drives.take_one.Goals as goal
 
-pub returns-in-Ok-clause-on : goal.returns-in-Ok-clause-on
-returns-in-Ok-clause-on c =
+pub returns-in-Ok-clause-silent : goal.returns-in-Ok-clause-silent
+returns-in-Ok-clause-silent c =
     took_goes c.args.c c.args.meta.now c.take.new.self (c.in-Ok.ensures.after tt)
 
 pub returns-in-Ok-clause-at : goal.returns-in-Ok-clause-at
@@ -15,7 +15,7 @@ returns-in-Ok-clause-at c =
 
 pub returns-in_default : goal.returns-in_default
 returns-in_default c = record {
-  on = took_goes c.args.c c.args.meta.now c.take.new.self
+  silent = took_goes c.args.c c.args.meta.now c.take.new.self
       (c.in-Err.ensures.after c.in_default.not-Memory);
   at = takes_at c.one_transcript.ensures c.args.c c.args.meta.now c.take.new.self (Err c.in-Err.error)
       false c.requires c.in-Err.ensures.returned c.in_default.not-Memory

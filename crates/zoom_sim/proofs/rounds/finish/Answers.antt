@@ -40,7 +40,7 @@ returns-clause-ends g c =
     let ended = c.end_inputs.new.meta in
     world_ends c.args.meta.now ended c.stop_all.new.meta c.args.peers.now c.loop.peers
     (world_trans c.args.meta.now c.loop.meta ended c.args.peers.now c.loop.peers c.loop.peers c.loop.invariant.0
-    (goes_world c.loop.meta ended c.loop.peers c.in_ok-end_inputs.ensures.on))
+    (goes_world c.loop.meta ended c.loop.peers c.in_ok-end_inputs.ensures.silent))
     (halts_ends ended c.stop_all.new.meta c.loop.peers c.stop_all.ensures.after)
 
 pub returns-clause-whole : goal.returns-clause-whole

@@ -17,7 +17,7 @@ pub returns-else-branch-clause-goes : goal.returns-else-branch-clause-goes
 returns-else-branch-clause-goes g c = IfOk-weaker c.end_inputs.result _ _ (λ _ g.
     world_trans c.args.meta.now c.go_round.new.meta c.end_inputs.new.meta c.args.peers.now c.go_round.new.peers
     c.go_round.new.peers c.in_ok-go_round.ensures.goes
-    (goes_world c.go_round.new.meta c.end_inputs.new.meta c.go_round.new.peers g)) c.end_inputs.ensures.on
+    (goes_world c.go_round.new.meta c.end_inputs.new.meta c.go_round.new.peers g)) c.end_inputs.ensures.silent
 
 pub returns-else-branch-clause-grows : goal.returns-else-branch-clause-grows
 returns-else-branch-clause-grows g c = λ sure. IfOk-weaker c.end_inputs.result _ _ (λ _ spares.

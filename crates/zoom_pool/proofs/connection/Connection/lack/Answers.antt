@@ -15,5 +15,5 @@ pub returns-in-Fault-clause-returned : goal.returns-in-Fault-clause-returned
 returns-in-Fault-clause-returned c = λ p m s u.
     truncated_at p _ c.in-Fault.kind c.in-Fault.at (subst (AreConsistent p) (sym c.self.view_is) m) s
     (ap (λ (z : Link). z.held) c.self.view_is ∙ c.requires.none) (ap (λ (z : Link). z.framer.asked) c.self.view_is
-    ∙ c.requires.asked) (ap (λ (z : Link). z.framer.fault) c.self.view_is ∙ c.requires.sound)
+    ∙ c.requires.asked) (ap (λ (z : Link). z.framer.fault) c.self.view_is ∙ c.requires.no_fault)
     (subst (λ (z : Link). IsUnfinished MESSAGE_LIMIT z.framer.octets) (sym c.self.view_is) u) (search rules) (search rules)

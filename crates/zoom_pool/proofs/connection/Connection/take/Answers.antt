@@ -14,8 +14,8 @@ use Rattle.zoom_pool.proofs.connection.Connection.take.Goals as goal
 pub lack-requires-clause-asked : goal.lack-requires-clause-asked
 lack-requires-clause-asked c = let i = rw c.in-Ok-None.field-0-is at c.in-Ok-None.ensures.idle in i.0
 
-pub lack-requires-clause-sound : goal.lack-requires-clause-sound
-lack-requires-clause-sound c = let i = rw c.in-Ok-None.field-0-is at c.in-Ok-None.ensures.idle in i.1
+pub lack-requires-clause-no_fault : goal.lack-requires-clause-no_fault
+lack-requires-clause-no_fault c = let i = rw c.in-Ok-None.field-0-is at c.in-Ok-None.ensures.idle in i.1
 
 pub returns-in-Ok-Some-clause-done : goal.returns-in-Ok-Some-clause-done
 returns-in-Ok-Some-clause-done c = λ p m d.

@@ -2,7 +2,7 @@ use Rattle.std.proofs.Common.{refl, subst, sym}
 use Rattle.std.proofs.lemmas.Result.{IfOk-weaker}
 use Rattle.zoom_pool.specs.Drivers.{PrepareStep}
 use Rattle.zoom_pool.proofs.Nexts.{gives}
-use Rattle.zoom_pool.proofs.Kept.{stays}
+use Rattle.zoom_pool.proofs.DriverAgreement.{stays}
 use Rattle.zoom_pool.proofs.driver.Driver.next_call.Goals as goal
 
 pub returns-clause-ok : goal.returns-clause-ok

@@ -1,5 +1,5 @@
 use Rattle.std.proofs.Common.{refl}
-use Rattle.zoom_pool.proofs.Kept.{knows_refused}
+use Rattle.zoom_pool.proofs.DriverAgreement.{knows_refused}
 use Rattle.zoom_pool.proofs.driver.Driver.note_refused.Goals as goal
 
 pub returns : goal.returns

@@ -1,6 +1,6 @@
 use Rattle.std.proofs.Common.{refl, rules}
 use Rattle.zoom_pool.specs.CallsOf.{call_of}
-use Rattle.zoom_pool.proofs.Kept.{knows_sent}
+use Rattle.zoom_pool.proofs.DriverAgreement.{knows_sent}
 use Rattle.zoom_pool.proofs.driver.Driver.note_sent.Goals as goal
 
 pub returns : goal.returns

@@ -9,9 +9,9 @@ returns-clause-carries g c =
     carries_trans c.args.c c.args.meta.now c.feed_from.new.meta c.end_where_stopped.new.meta c.args.self.now
     c.feed_from.new.self c.feed_from.new.self c.in_ok-carried.ensures.carries
     (goes_carries c.args.c c.feed_from.new.meta c.end_where_stopped.new.meta c.feed_from.new.self
-    (goes_trans c.feed_from.new.meta c.stop_for.new.meta c.end_where_stopped.new.meta c.stop_for.ensures.on
-    (goes_trans c.stop_for.new.meta c.take_all.new.meta c.end_where_stopped.new.meta c.in_ok-take_all.ensures.on
-    c.in_ok-end_where_stopped.ensures.on)))
+    (goes_trans c.feed_from.new.meta c.stop_for.new.meta c.end_where_stopped.new.meta c.stop_for.ensures.silent
+    (goes_trans c.stop_for.new.meta c.take_all.new.meta c.end_where_stopped.new.meta c.in_ok-take_all.ensures.silent
+    c.in_ok-end_where_stopped.ensures.silent)))
 
 pub returns-clause-steps : goal.returns-clause-steps
 returns-clause-steps g c = λ sure.

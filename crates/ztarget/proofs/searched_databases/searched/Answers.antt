@@ -8,8 +8,8 @@ use Rattle.std.specs.Ordering.{nat_cmp}
 use Rattle.ztarget.specs.Keeping.{databases_of}
 use Rattle.ztarget.specs.Searching.{called, each_once}
 use Rattle.ztarget.proofs.OnceNamed.{membership_more, new_name, old_name}
-use Rattle.ztarget.proofs.searched.searched.Goals as goal
-use Rattle.ztarget.proofs.searched.searched.Goals.{then-branch+in_ok-put_called, else-branch}
+use Rattle.ztarget.proofs.searched_databases.searched.Goals as goal
+use Rattle.ztarget.proofs.searched_databases.searched.Goals.{then-branch+in_ok-put_called, else-branch}
 
 was_new : (added told : Bool) → added ≡ not told → added ≡ true → told ≡ false
 was_new added true h k = absurd (true≢false (sym k ∙ h))

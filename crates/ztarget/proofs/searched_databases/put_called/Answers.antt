@@ -3,7 +3,7 @@ use Rattle.std.proofs.lemmas.Option.{slice_get_read}
 use Rattle.ztarget.specs.Keeping.{databases_of}
 use Rattle.ztarget.specs.Searching.{called}
 use Rattle.ztarget.proofs.OnceNamed.{called_more}
-use Rattle.ztarget.proofs.searched.put_called.Goals as goal
+use Rattle.ztarget.proofs.searched_databases.put_called.Goals as goal
 
 pub loop-number-preserved : goal.loop-number-preserved
 loop-number-preserved c =

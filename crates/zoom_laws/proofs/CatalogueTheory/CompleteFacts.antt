@@ -64,7 +64,7 @@ use Rattle.zoom_laws.specs.Catalogue.{entries_for, positions_due, shown_at, foun
 use Rattle.zoom_laws.proofs.CatalogueTheory.Standings.{given, response, search_by, find_in, accepts, refuses, force_of}
 use Rattle.zoom_laws.proofs.CatalogueTheory.Members.{to_map, of_map, length_at, of_seen, to_seen}
 use Rattle.zoom_laws.proofs.CatalogueTheory.Presents.{records_back, no_diagnostics, kept_of}
-use Rattle.zoom_laws.proofs.CatalogueTheory.Replied.{search_reply, PresentedAt, opened, searched, presented_at, for_opens}
+use Rattle.zoom_laws.proofs.CatalogueTheory.OperationReplies.{search_reply, PresentedAt, opened, searched, presented_at, for_opens}
 
 -- ---- operations
 
