@@ -1,5 +1,5 @@
 -- What a report of a connection, or octets that came on it, add to what was recorded.
-use Rattle.std.specs.Prelude.{◌≡◌, ℕ, ◌<◌, ◌≤◌, ◌==◌, Bool, true, false, List, [], ◌∷◌, ◌++◌, Option, None, Some, is_some}
+use Rattle.std.specs.Prelude.{◌≡◌, ◌⊎◌, ℕ, ◌<◌, ◌≤◌, ◌==◌, Bool, true, false, List, [], ◌∷◌, ◌++◌, Option, None, Some, is_some}
 use Rattle.zoom_asking.specs.declared.inquiry.Report.{Report}
 use Rattle.zoom_asking.specs.declared.inquiry.Report.TheVariants as reports
 use Rattle.zoom_trace.specs.declared.entry.TraceEntry.{TraceEntry}
@@ -46,6 +46,16 @@ abbrev pub IsToldAny
     : {W : Type 0} → (W → Option (List ℕ)) → ℕ → ℕ → Option Report → Recorder W → Recorder W → Type 0
 IsToldAny contents at c None old new = new ≡ old
 IsToldAny contents at c (Some report) old new = IsToldIf contents at c report old new
+
+-- The addresses of a host were told, however many they are; or nothing was, since its name is to be looked up.
+abbrev pub IsBegun : {W : Type 0} → (W → Option (List ℕ)) → ℕ → ℕ → Recorder W → Recorder W → Type 0
+IsBegun contents at c old new = ((count : ℕ) × IsToldIf contents at c (reports.Resolved count) old new) ⊎ (new ≡ old)
+
+-- the same of a connection that has a host; of another nothing is told
+abbrev pub IsBegunIf
+    : {W : Type 0} → (W → Option (List ℕ)) → ℕ → ℕ → Option (List ℕ) → Recorder W → Recorder W → Type 0
+IsBegunIf contents at c None old new = new ≡ old
+IsBegunIf contents at c (Some name) old new = IsBegun contents at c old new
 
 -- Octets of a connection that is there were recorded, at this time. Of another nothing is recorded.
 pub record IsHeardIf

@@ -1,19 +1,19 @@
 //! Asks hosts over TCP: does what `zoom_asking` says, and reports what happens on sockets.
 ghost use Rattle.std.specs.Prelude.{◌≡◌, ◌<◌, ◌^◌, length, option_map, IfOk, OnOk};
 ghost use Rattle.zoom_questions.specs.Askable.{AreFit, AreAskable};
-ghost use Rattle.zoom_trace.specs.Recording.{IsRecordedOn};
 ghost use Rattle.zoom_tcp.specs.Asking.{IsAsked, IsTracedAsk, asked_host, hosts_of};
-ghost use Rattle.zoom_tcp.specs.Telling.{is_failure, IsHeardIf};
+
+mod telling;
 
 use crate::limits::{Family, Limits};
 use crate::names::{Names, addresses_in, resolve};
-use crate::sockets::{Happening, Sockets};
+use crate::sockets::Sockets;
 use crate::stopwatch::Stopwatch;
 use crate::watch::Watch;
 use bytes::Bytes;
 use std::alloc::{AllocError, Global};
 use std::io::Write;
-use std::net::{Net, SocketAddr};
+use std::net::Net;
 use std::time::{Clock, Duration};
 use zber::Seq;
 use zoom_asking::laws::{asked_end_law, given_up_law};
@@ -143,9 +143,8 @@ impl<'a, N: Net + Clock> Shell<'a, N> {
     ghost use Rattle.zoom_asking.specs.Askings.{IsOverAt};
     ghost use Rattle.zoom_trace.specs.Recording.{IsRecordedOn};
     ghost use Rattle.zoom_trace.specs.Tracing.{IsWrittenOut};
-    ghost use Rattle.zoom_asking.specs.declared.inquiry.Report.TheVariants as reports;
     ghost use Rattle.zoom_tcp.specs.Asking.{IsEndedOn};
-    ghost use Rattle.zoom_tcp.specs.Telling.{IsToldIf, IsToldAny, IsHappened};
+    ghost use Rattle.zoom_tcp.specs.Telling.{IsBegun, IsBegunIf};
 
     /// Asks all hosts to their ends, and writes what is left of the trace.
     fn ask_all<V: Watch, T: Write + Drop>(
@@ -189,7 +188,8 @@ impl<'a, N: Net + Clock> Shell<'a, N> {
         c: u32,
         name: &Option<Bytes>,
     ) -> Result<(), AllocError>
-        ensures { OnOk result (IsRecordedOn T.contents recorder.old recorder.new) }
+        ensures recorded { OnOk result (IsRecordedOn T.contents recorder.old recorder.new) }
+        ensures begun { OnOk result (IsBegunIf T.contents self.old.now c name.now recorder.old recorder.new) }
     {
         match name {
             Some(name) => self.begin_one(recorder, c, name),
@@ -205,29 +205,13 @@ impl<'a, N: Net + Clock> Shell<'a, N> {
         c: u32,
         name: &Bytes,
     ) -> Result<(), AllocError>
-        ensures { OnOk result (IsRecordedOn T.contents recorder.old recorder.new) }
+        ensures recorded { OnOk result (IsRecordedOn T.contents recorder.old recorder.new) }
+        ensures begun { OnOk result (IsBegun T.contents self.old.now c recorder.old recorder.new) }
     {
         match addresses_in(self.alloc, name.as_slice(), self.family)? {
             Some(found) => self.resolved(recorder, c, found.addresses, found.notice),
             None => self.names.put(c, name.clone()?),
         }
-    }
-
-    /// These are the addresses of a connection's host. If there are none, that is why.
-    fn resolved<T: Write + Drop>(
-        &mut self,
-        recorder: &mut Recorder<T>,
-        c: u32,
-        addresses: Vec<SocketAddr>,
-        notice: Notice,
-    ) -> Result<(), AllocError>
-        ensures on { OnOk result (IsRecordedOn T.contents recorder.old recorder.new) }
-        ensures told { OnOk result (IsToldIf T.contents self.old.now c (reports.Resolved (length addresses.items))
-            recorder.old recorder.new) }
-    {
-        let count = addresses.len();
-        self.sockets.know(c, addresses, notice);
-        self.tell(recorder, c, Report::Resolved(count))
     }
 
     /// Goes on until each connection is over, for 2^64 - 1 wakes at most. Returns whether they are over. What was
@@ -432,73 +416,6 @@ impl<'a, N: Net + Clock> Shell<'a, N> {
             None => Ok(()),
         }
     }
-
-    /// Tells what happened on a connection.
-    fn happen<T: Write + Drop>(
-        &mut self,
-        recorder: &mut Recorder<T>,
-        c: u32,
-        happening: Happening,
-    ) -> Result<(), AllocError>
-        ensures on { OnOk result (IsRecordedOn T.contents recorder.old recorder.new) }
-        ensures happened { OnOk result (IsHappened T.contents self.old.now c happening recorder.old recorder.new) }
-    {
-        match happening {
-            Happening::Report(report) => self.tell(recorder, c, report),
-            Happening::Octets(count) => hear(recorder, self.now, c, self.sockets.piece(count)),
-        }
-    }
-
-    /// Reports what happened on a connection, if anything did.
-    #[tactic(auto, using(zoom_trace::proofs::Recorded::none_recorded))]
-    fn tell_if<T: Write + Drop>(
-        &mut self,
-        recorder: &mut Recorder<T>,
-        c: u32,
-        report: Option<Report>,
-    ) -> Result<(), AllocError>
-        ensures on { OnOk result (IsRecordedOn T.contents recorder.old recorder.new) }
-        ensures told { OnOk result (IsToldAny T.contents self.old.now c report recorder.old recorder.new) }
-    {
-        match report {
-            Some(report) => self.tell(recorder, c, report),
-            None => Ok(()),
-        }
-    }
-
-    /// Reports what happened on a connection. If the system may tell why, puts down what was noticed of its host.
-    #[tactic(auto, using(zoom_trace::proofs::Recorded::none_recorded, zoom_trace::proofs::Recorded::one_recorded, crate::proofs::Telling::none_told, crate::proofs::Telling::report_told, crate::proofs::Telling::failure_told))]
-    fn tell<T: Write + Drop>(
-        &mut self,
-        recorder: &mut Recorder<T>,
-        c: u32,
-        report: Report,
-    ) -> Result<(), AllocError>
-        ensures on { OnOk result (IsRecordedOn T.contents recorder.old recorder.new) }
-        ensures told { OnOk result (IsToldIf T.contents self.old.now c report recorder.old recorder.new) }
-    {
-        if (c as usize) >= recorder.connections() {
-            return Ok(());
-        }
-        recorder.report(self.now, c, report)?;
-        if !is_failure(report) {
-            return Ok(());
-        }
-        let noticed = self.sockets.notice(c);
-        recorder.notice(self.now, c, noticed)?;
-        Ok(())
-    }
-}
-
-/// Whether a report is one of which the system may tell why.
-fn is_failure(report: Report) -> bool
-    ensures { result ≡ is_failure report }
-{
-    match report {
-        Report::Resolved(count) => count == 0,
-        Report::Unreachable(_) | Report::End | Report::Unreadable | Report::Unwritable => true,
-        Report::Connected(_) | Report::NoSocket(_) | Report::Taken => false,
-    }
 }
 
 /// The shorter of two waits, each `None` if it has no end.
@@ -508,21 +425,4 @@ fn shorter_of(one: Option<Duration>, other: Option<Duration>) -> Option<Duration
         (Some(one), None) => Some(one),
         (None, other) => other,
     }
-}
-
-/// Reports octets that came on a connection.
-#[tactic(auto, using(zoom_trace::proofs::Recorded::none_recorded, zoom_trace::proofs::Recorded::one_recorded, crate::proofs::Telling::none_heard, crate::proofs::Telling::octets_heard))]
-fn hear<T: Write + Drop>(
-    recorder: &mut Recorder<T>,
-    now: u64,
-    c: u32,
-    piece: &[u8],
-) -> Result<(), AllocError>
-    ensures on { OnOk result (IsRecordedOn T.contents recorder.old recorder.new) }
-    ensures heard { OnOk result (IsHeardIf T.contents now c piece.now recorder.old recorder.new) }
-{
-    if (c as usize) < recorder.connections() {
-        recorder.octets(now, c, piece)?;
-    }
-    Ok(())
 }

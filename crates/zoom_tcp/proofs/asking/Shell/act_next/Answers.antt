@@ -9,4 +9,4 @@ returns g c =
     let next = c.next_action.new.self in
     let got = one_recorded W (wanted c.args.self.now.now c.in_ok-next.next) old next c.in_ok-next.ensures.recorded in
     let acted = more_recorded W old next c.act.new.recorder got c.in_ok-report.ensures in
-    more_recorded W old c.act.new.recorder c.tell_if.new.recorder acted c.in_ok-tell_if.ensures.on
+    more_recorded W old c.act.new.recorder c.tell_if.new.recorder acted c.in_ok-tell_if.ensures.recorded

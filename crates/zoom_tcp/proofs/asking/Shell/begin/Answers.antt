@@ -4,4 +4,4 @@ use Rattle.zoom_tcp.proofs.asking.Shell.begin.Goals as goal
 pub loop-i-preserved : goal.loop-i-preserved
 loop-i-preserved g c =
     more_recorded g.T.Write.contents c.args.recorder.now c.loop-i.recorder c.begin_if.new.recorder c.loop-i.invariant
-    c.in_ok-begin_if.ensures
+    c.in_ok-begin_if.ensures.recorded

@@ -2,8 +2,8 @@ use Rattle.zoom_trace.specs.Recording.{reported, noticed}
 use Rattle.zoom_trace.proofs.Recorded.{one_recorded, then_recorded}
 use Rattle.zoom_tcp.proofs.asking.Shell.tell.Goals as goal
 
-pub returns-clause-on : goal.returns-clause-on
-returns-clause-on g c =
+pub returns-clause-recorded : goal.returns-clause-recorded
+returns-clause-recorded g c =
     let W = g.T.Write.contents in
     let old = c.args.recorder.now in
     let told = c.report.new.self in
