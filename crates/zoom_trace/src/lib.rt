@@ -11,8 +11,6 @@ mod notice;
 mod noticing;
 mod reading;
 mod recording;
-#[cfg(test)]
-mod tests;
 mod tracing;
 mod writing;
 

@@ -1,5 +1,5 @@
-//! Sessions of origins, pools, hosts and driven connections, step by step, world files that are read, and hosts that are
-//! asked under a clock: the tests that cross the crates above what is known.
+//! Sessions of origins, pools, hosts and driven connections, step by step, world files that are read, hosts that are asked
+//! under a clock, and traces of that: the tests that cross the crates above what is known.
 #![tactic(auto)]
 
 #[cfg(test)]
@@ -28,6 +28,8 @@ mod seeds;
 mod sessions;
 #[cfg(test)]
 mod talks;
+#[cfg(test)]
+mod traces;
 #[cfg(test)]
 mod windows;
 #[cfg(test)]

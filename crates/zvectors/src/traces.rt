@@ -1,13 +1,4 @@
 // Traces, worked out by hand: what is read of them, and what a replay of them leaves.
-use crate::entry::{TraceEntry, Traced};
-use crate::fault::TraceError;
-use crate::feeding::replay;
-use crate::history::read_trace;
-use crate::notice::Notice;
-use crate::noticing::notices;
-use crate::recording::Recorder;
-use crate::tracing::Tracer;
-use crate::writing::put_entry;
 use bytes::Bytes;
 use std::alloc::Global;
 use std::io;
@@ -15,8 +6,12 @@ use std::io::{ErrorKind, Write};
 use std::process::Abort;
 use std::test::Fail;
 use zber::Seq;
+use zoom::{MetaSettings, Question};
 use zoom_asking::{AskedHost, Asking, Manner, Report};
-use zoom_pool::{MetaSettings, Question};
+use zoom_trace::{
+    Notice, Recorder, TraceEntry, TraceError, Traced, Tracer, notices, put_entry, read_trace,
+    replay,
+};
 use zquery::parse_pqf;
 
 // A line of each kind, and the largest numbers.
