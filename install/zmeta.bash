@@ -1,6 +1,6 @@
 # bash completion for zmeta
 
-_zmeta_commands='ask replay run loop join records serve show pqf help'
+_zmeta_commands='ask replay run loop join new records serve show pqf help'
 _zmeta_syntaxes='marc21 unimarc xml sutrs opac grs1'
 _zmeta_terms='--title --author --subject --isbn --any'
 _zmeta_search="$_zmeta_terms --query --records --elements --syntax"
@@ -49,7 +49,8 @@ _zmeta_options() {
         replay) options="$_zmeta_views --heading --save --explain" ;;
         run | loop) options="$_zmeta_search $_zmeta_views --heading --save --explain" ;;
         join) options="$_zmeta_views --heading --save --quiet --explain" ;;
-        records) options='--only --syntax --conflicts --explain' ;;
+        new) options="$_zmeta_views --heading --explain" ;;
+        records) options='--new --only --syntax --conflicts --explain' ;;
         show) options='--trace --only --explain' ;;
         serve | pqf) options=--explain ;;
         *) left= ;;
@@ -63,7 +64,7 @@ _zmeta_options() {
 # The value of option $1, of which $2 is typed, and $3 stands before it in the word.
 _zmeta_value() {
     case $1 in
-        --save | --trace) _zmeta_files "$3" "$2" ;;
+        --save | --trace | --new) _zmeta_files "$3" "$2" ;;
         --syntax) _zmeta_choose "$_zmeta_syntaxes" "$2" "$3" ;;
         --elements) _zmeta_choose 'F B' "$2" "$3" ;;
     esac
@@ -72,7 +73,7 @@ _zmeta_value() {
 # Word $2 of command $1, of which $3 is typed; the first is 0.
 _zmeta_word() {
     case $1.$2 in
-        ask.0 | replay.0 | run.0 | loop.0 | join.* | records.* | serve.2) _zmeta_files '' "$3" ;;
+        ask.0 | replay.0 | run.0 | loop.0 | join.* | new.[01] | records.* | serve.2) _zmeta_files '' "$3" ;;
         help.0) _zmeta_choose "$_zmeta_commands" "$3" ;;
     esac
 }
@@ -90,7 +91,8 @@ _zmeta_any() {
         show) valued=' --trace --only ' ;;
         run | loop) valued=" $_zmeta_search --heading --save " ;;
         join | replay) valued=' --heading --save ' ;;
-        records) valued=' --only --syntax ' ;;
+        new) valued=' --heading ' ;;
+        records) valued=' --new --only --syntax ' ;;
     esac
     for ((i = 2; i < ${#words[@]}; i++)); do
         last=${words[i]}

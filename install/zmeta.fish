@@ -65,12 +65,14 @@ complete -c zmeta -n __zmeta_first -a run -d 'Runs searches against catalogues i
 complete -c zmeta -n __zmeta_first -a loop \
     -d 'Runs searches against catalogues in memory, over this machine\'s network'
 complete -c zmeta -n __zmeta_first -a join -d 'Puts together what searches of the same catalogues brought'
+complete -c zmeta -n __zmeta_first -a new \
+    -d 'Shows which records are new, changed or gone between two searches'
 complete -c zmeta -n __zmeta_first -a records -d 'Writes the records that searches of the same catalogues brought'
 complete -c zmeta -n __zmeta_first -a serve -d 'Serves a catalogue in memory to other programs'
 complete -c zmeta -n __zmeta_first -a show -d 'Shows what recorded Z39.50 messages say'
 complete -c zmeta -n __zmeta_first -a pqf -d 'Shows how a query is understood, and how it goes out'
 complete -c zmeta -n __zmeta_first -a help -d 'Print this message or the help of the given subcommand(s)'
-complete -c zmeta -n '__zmeta_at 1 help' -a 'ask replay run loop join records serve show pqf help'
+complete -c zmeta -n '__zmeta_at 1 help' -a 'ask replay run loop join new records serve show pqf help'
 
 complete -c zmeta -n 'not __zmeta_in help' -s h -l help -d 'Print help'
 complete -c zmeta -n __zmeta_first -s V -l version -d 'Print version'
@@ -108,17 +110,17 @@ complete -c zmeta -n '__zmeta_in ask run loop; and __zmeta_lacks --elements' -l 
 complete -c zmeta -n '__zmeta_in ask run loop; and __zmeta_lacks --syntax' -l syntax -x \
     -a 'marc21 unimarc xml sutrs opac grs1' \
     -d 'Asks every catalogue for records of this syntax: a name as marc21, or an OID'
-complete -c zmeta -n '__zmeta_in ask replay run loop join; and __zmeta_lacks --titles --fields --json --hex --html' -l titles \
+complete -c zmeta -n '__zmeta_in ask replay run loop join new; and __zmeta_lacks --titles --fields --json --hex --html' -l titles \
     -d 'Prints years and titles, to be read, in place of the list'
-complete -c zmeta -n '__zmeta_in ask replay run loop join; and __zmeta_lacks --titles --fields --json --hex --html' -l fields \
+complete -c zmeta -n '__zmeta_in ask replay run loop join new; and __zmeta_lacks --titles --fields --json --hex --html' -l fields \
     -d 'Prints what --titles prints, and below each row the fields of its record'
-complete -c zmeta -n '__zmeta_in ask replay run loop join; and __zmeta_lacks --titles --fields --json --hex --html' -l json \
+complete -c zmeta -n '__zmeta_in ask replay run loop join new; and __zmeta_lacks --titles --fields --json --hex --html' -l json \
     -d 'Prints a JSON object a line, for programs, in place of the list'
-complete -c zmeta -n '__zmeta_in ask replay run loop join; and __zmeta_lacks --titles --fields --json --hex --html' -l hex \
+complete -c zmeta -n '__zmeta_in ask replay run loop join new; and __zmeta_lacks --titles --fields --json --hex --html' -l hex \
     -d 'Prints the octets of records in hexadecimal'
-complete -c zmeta -n '__zmeta_in ask replay run loop join; and __zmeta_lacks --titles --fields --json --hex --html' -l html \
+complete -c zmeta -n '__zmeta_in ask replay run loop join new; and __zmeta_lacks --titles --fields --json --hex --html' -l html \
     -d 'Prints a page for a browser (HTML) in place of the list'
-complete -c zmeta -n '__zmeta_in ask replay run loop join; and __zmeta_lacks --heading' -l heading -x \
+complete -c zmeta -n '__zmeta_in ask replay run loop join new; and __zmeta_lacks --heading' -l heading -x \
     -d 'Is the heading of the page that --html prints'
 complete -c zmeta -n '__zmeta_in ask replay run loop join; and __zmeta_lacks --save' -l save -r -F \
     -d 'Saves what was brought, in the file OUT'
@@ -130,6 +132,8 @@ complete -c zmeta -n '__zmeta_in show' -l only -x \
     -d 'Shows just what was said with this catalogue; may be given several times'
 complete -c zmeta -n '__zmeta_in join; and __zmeta_lacks --quiet --titles --fields --json --hex --html' -l quiet \
     -d 'Prints no list: merges the files piece by piece, whatever their size'
+complete -c zmeta -n '__zmeta_in records; and __zmeta_lacks --new' -l new -r -F \
+    -d 'Writes just the records that are new or changed since the saved file OLD'
 complete -c zmeta -n '__zmeta_in records' -l only -x \
     -d 'Writes just the records of this catalogue; may be given several times'
 complete -c zmeta -n '__zmeta_in records; and __zmeta_lacks --syntax' -l syntax -x \
@@ -138,9 +142,10 @@ complete -c zmeta -n '__zmeta_in records; and __zmeta_lacks --syntax' -l syntax 
 complete -c zmeta -n '__zmeta_in records; and __zmeta_lacks --conflicts' -l conflicts \
     -d 'Writes all records of a position for which several are known'
 complete -c zmeta -l explain \
-    -n '__zmeta_in ask replay run loop join records serve show pqf; and __zmeta_lacks --explain' \
+    -n '__zmeta_in ask replay run loop join new records serve show pqf; and __zmeta_lacks --explain' \
     -d 'Says below each fault, in words, what is wrong and what to write; terminals get that without it'
 
-complete -c zmeta -n '__zmeta_at 1 ask replay run loop join records' -F
+complete -c zmeta -n '__zmeta_at 1 ask replay run loop join new records' -F
+complete -c zmeta -n '__zmeta_at 2 new' -F
 complete -c zmeta -n '__zmeta_in join records; and not __zmeta_at 1 join records' -F
 complete -c zmeta -n '__zmeta_at 3 serve' -F

@@ -20,6 +20,7 @@ import sys
 import tempfile
 from concurrent.futures import ThreadPoolExecutor
 
+import changes
 import completions
 import hosts
 import html_pages
@@ -50,7 +51,7 @@ COPIED = 5000
 JSON_WORLDS, JSON_FACTS = 3000, 20000
 SEED = 1
 # the tables of rows, but those of completions
-TABLES = "show pqf join records worlds search json help full explained words".split()
+TABLES = "show pqf join new records worlds search json help full explained words".split()
 
 
 def octets_of(name):
@@ -189,6 +190,8 @@ def main():
         print(f"program: {count} traces, replayed, cut and damaged")
         faults += saving.faults(ZMETA, room)
         print("program: saved files where saving may fail")
+        faults += changes.faults(ZMETA)
+        print(f"program: changes of {changes.CASES} pairs of saved files")
         faults += merging.faults(ZMETA)
         print(f"program: {2 * merging.CASES} merges of saved files")
         faults += large.faults(ZMETA, room)

@@ -5,9 +5,9 @@ here alone.
     ZMETA=PROGRAM python3 tests/program/large.py          (all commands)
     ZMETA=PROGRAM python3 tests/program/large.py show     (this one)
 
-`show` reads two million digits. The others have 100,000 records of one catalogue each, and `join` prints 200,000 rows,
-of which standard output takes 16 octets at a time. `gives-up` has a wrong body for each command, which its row here
-finds."""
+`show` reads two million digits. The others have 100,000 records of one catalogue each; `join` prints 200,000 rows, of
+which standard output takes 16 octets at a time, and `new` has that many changes. `gives-up` has a wrong body for each
+command, which its row here finds."""
 
 import os
 import subprocess
@@ -92,6 +92,14 @@ def records(zmeta, room):
     yield run(zmeta, room, ["records", name]), (0, b"".join(map(octets_of, range(1, RECORDS + 1))), b"")
 
 
+def new(zmeta, room):
+    halves = [range(1, RECORDS + 1), range(RECORDS + 1, 2 * RECORDS + 1)]
+    names = [made(room, f"{name}.saved", saved_of(it)) for name, it in zip(("old", "new"), halves)]
+    rows = zip((b"new ", b"gone "), halves[::-1])
+    lines = [word + line for word, it in rows for line in rows_of(it).splitlines(True)]
+    yield run(zmeta, room, ["new", *names]), (0, b"".join(lines), b"")
+
+
 def entries():
     return b"".join(b'rec %s "%s"\nfield 4 dune\n' % (MARC21.encode(), octets_of(it)) for it in range(1, RECORDS + 1))
 
@@ -134,7 +142,8 @@ def ask(zmeta, room):
             server.kill()
 
 
-COMMANDS = {"show": show, "pqf": pqf, "join": join, "records": records, "run": run_world, "loop": loop, "ask": ask}
+COMMANDS = {"show": show, "pqf": pqf, "join": join, "records": records, "new": new, "run": run_world, "loop": loop,
+            "ask": ask}
 
 
 def short(found):

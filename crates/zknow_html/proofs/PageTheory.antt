@@ -1,4 +1,4 @@
--- The page is a document, whatever it is made of, and has the rows that are due.
+-- The pages are documents, whatever they are made of, and have the rows that are due.
 use Rattle.std.proofs.Common.{◌≡◌, ℕ, List, [], ◌++◌, Option, refl, sym, ap, ◌∙◌, append_assoc}
 use Rattle.std.specs.Prelude.{codes}
 use Rattle.zhtml.specs.declared.attributes.AttributeName.TheVariants.{Lang, Id}
@@ -15,8 +15,8 @@ use Rattle.zknow_titles.specs.Names.{shown_names}
 use Rattle.zknow_html.specs.declared.style.TheConstants.{STYLE, POLICY}
 use Rattle.zknow_html.specs.Cells.{only, said_with}
 use Rattle.zknow_html.specs.Laws.{IsDocument, HasRowTexts}
-use Rattle.zknow_html.specs.Page.{encoding, viewport, policy_element, metadata, head, region, section_start, section_end, section, tables, body, document, page}
-use Rattle.zknow_html.specs.Rows.{row_texts}
+use Rattle.zknow_html.specs.Page.{encoding, viewport, policy_element, metadata, head, region, section_start, section_end, section, tables, body, document, page, change_tables, change_page}
+use Rattle.zknow_html.specs.Rows.{row_texts, change_texts}
 use Rattle.zknow_html.proofs.CellTheory.{said_has_no_rows, said_with_has_no_rows}
 use Rattle.zknow_html.proofs.RowTheory.{catalogues_have_rows, records_table_has_rows}
 
@@ -98,3 +98,44 @@ pub page_has_rows : (heading : List ℕ) (names : List (List ℕ)) (stops : List
 unfolding page
 page_has_rows heading names stops facts =
     rows_read_back _ (inner heading names stops facts) _ refl (inner_has_rows heading names stops facts)
+
+-- ---- the page of changes
+
+change_tables_have_rows : (earlier later : List (List ℕ)) (new changed gone : List Fact)
+    → HasRows (change_tables earlier later new changed gone) (change_texts earlier later new changed gone)
+unfolding change_tables
+change_tables_have_rows earlier later new changed gone =
+    append_has_rows
+    (append_has_rows (section_has_rows (codes "new") (codes "New") _ _ (records_table_has_rows later new))
+    (section_has_rows (codes "changed") (codes "Changed") _ _ (records_table_has_rows later changed)))
+    (section_has_rows (codes "gone") (codes "Gone") _ _ (records_table_has_rows earlier gone))
+
+-- what stands behind what a document begins with
+abbrev changes_inner : List ℕ → List (List ℕ) → List (List ℕ) → List Fact → List Fact → List Fact → List ℕ
+changes_inner heading earlier later new changed gone =
+    document POLICY.now STYLE.now heading
+    (change_tables (shown_names earlier) (shown_names later) new changed gone)
+
+changes_inner_has_rows : (heading : List ℕ) (earlier later : List (List ℕ)) (new changed gone : List Fact)
+    → HasRows (changes_inner heading earlier later new changed gone)
+    (change_texts (shown_names earlier) (shown_names later) new changed gone)
+changes_inner_has_rows heading earlier later new changed gone =
+    document_has_rows POLICY.now STYLE.now heading _ _
+    (change_tables_have_rows (shown_names earlier) (shown_names later) new changed gone)
+
+pub changes_are_document : (heading : List ℕ) (earlier later : List (List ℕ)) (new changed gone : List Fact)
+    → IsDocument (change_page heading earlier later new changed gone)
+unfolding change_page
+changes_are_document heading earlier later new changed gone = record {
+  inside = changes_inner heading earlier later new changed gone;
+  made = refl;
+  markup = rows_are_markup (changes_inner_has_rows heading earlier later new changed gone);
+}
+
+pub change_page_has_rows : (heading : List ℕ) (earlier later : List (List ℕ)) (new changed gone : List Fact)
+    → HasRowTexts (change_page heading earlier later new changed gone)
+    (change_texts (shown_names earlier) (shown_names later) new changed gone)
+unfolding change_page
+change_page_has_rows heading earlier later new changed gone =
+    rows_read_back _ (changes_inner heading earlier later new changed gone) _ refl
+    (changes_inner_has_rows heading earlier later new changed gone)

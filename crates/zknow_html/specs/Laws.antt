@@ -1,5 +1,5 @@
--- The page is a document of the small HTML, whatever the heading, the names, the stops and the facts are; and read back
--- it has each row of the view once.
+-- Both pages are documents of the small HTML, whatever the heading, the names, the stops and the facts are; and read
+-- back they have each row once.
 use Rattle.std.specs.Prelude.{◌≡◌, ℕ, Option, Some, List, ◌++◌}
 use Rattle.zhtml.specs.Laws.{IsMarkup}
 use Rattle.zhtml.specs.Markup.{doctype}
@@ -9,8 +9,8 @@ use Rattle.zhtml.specs.Trees.{Nodes}
 use Rattle.zknow.specs.declared.fact.Fact.{Fact}
 use Rattle.zknow_stops.specs.declared.stop.Stop.{Stop}
 use Rattle.zknow_titles.specs.Names.{shown_names}
-use Rattle.zknow_html.specs.Page.{page}
-use Rattle.zknow_html.specs.Rows.{row_texts}
+use Rattle.zknow_html.specs.Page.{page, change_page}
+use Rattle.zknow_html.specs.Rows.{row_texts, change_texts}
 
 -- the text of nodes behind what a document begins with: read back, it is these nodes (`read_law` of `zhtml`)
 pub record IsDocument (octets : List ℕ) : Type 0 where
@@ -23,6 +23,12 @@ abbrev pub PageLaw : Type 0
 PageLaw =
     (heading : List ℕ) (names : List (List ℕ)) (stops : List (Option Stop)) (facts : List Fact)
     → IsDocument (page heading names stops facts)
+
+-- whatever the heading, the names and the facts are
+abbrev pub ChangePageLaw : Type 0
+ChangePageLaw =
+    (heading : List ℕ) (earlier later : List (List ℕ)) (new changed gone : List Fact)
+    → IsDocument (change_page heading earlier later new changed gone)
 
 -- ---- rows
 
@@ -40,3 +46,10 @@ abbrev pub RowsLaw : Type 0
 RowsLaw =
     (heading : List ℕ) (names : List (List ℕ)) (stops : List (Option Stop)) (facts : List Fact)
     → HasRowTexts (page heading names stops facts) (row_texts (shown_names names) stops facts)
+
+-- the rows of the page of changes, whatever the heading, the names and the facts are
+abbrev pub ChangeRowsLaw : Type 0
+ChangeRowsLaw =
+    (heading : List ℕ) (earlier later : List (List ℕ)) (new changed gone : List Fact)
+    → HasRowTexts (change_page heading earlier later new changed gone)
+    (change_texts (shown_names earlier) (shown_names later) new changed gone)

@@ -64,9 +64,13 @@ abbrev pub catalogues_part : List (List ℕ) → List (Option Stop) → List Fac
 catalogues_part shown stops facts =
     section (codes "catalogues") (codes "Catalogues") (catalogue_table shown stops facts (sets_of facts))
 
--- the records, by position, target and set
+-- a part with records, by position, target and set
+abbrev pub part_with : List ℕ → List ℕ → List (List ℕ) → List Fact → List ℕ
+part_with name heading shown facts = section name heading (record_table shown facts (rows_of facts))
+
+-- the records
 abbrev pub records_part : List (List ℕ) → List Fact → List ℕ
-records_part shown facts = section (codes "records") (codes "Records") (record_table shown facts (rows_of facts))
+records_part shown facts = part_with (codes "records") (codes "Records") shown facts
 
 -- both
 unfoldable pub tables : List (List ℕ) → List (Option Stop) → List Fact → List ℕ
@@ -85,3 +89,19 @@ document policy style heading shown_tables =
 unfoldable pub page : List ℕ → List (List ℕ) → List (Option Stop) → List Fact → List ℕ
 page heading names stops facts =
     doctype ++ document POLICY.now STYLE.now heading (tables (shown_names names) stops facts)
+
+-- ---- the page of changes
+
+-- the records that are new and those that changed, with the names of the later file, and those that are gone, with the
+-- names of the earlier one
+unfoldable pub change_tables : List (List ℕ) → List (List ℕ) → List Fact → List Fact → List Fact → List ℕ
+change_tables earlier later new changed gone =
+    part_with (codes "new") (codes "New") later new ++ part_with (codes "changed") (codes "Changed") later changed
+    ++ part_with (codes "gone") (codes "Gone") earlier gone
+
+-- the page
+unfoldable pub change_page
+    : List ℕ → List (List ℕ) → List (List ℕ) → List Fact → List Fact → List Fact → List ℕ
+change_page heading earlier later new changed gone =
+    doctype ++ document POLICY.now STYLE.now heading
+    (change_tables (shown_names earlier) (shown_names later) new changed gone)

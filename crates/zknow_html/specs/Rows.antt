@@ -113,3 +113,11 @@ catalogue_texts shown stops facts = map (set_text shown facts) (sets_of facts) +
 -- stopped, and one for each record in the rows of that view.
 abbrev pub row_texts : List (List ℕ) → List (Option Stop) → List Fact → List RowText
 row_texts shown stops facts = catalogue_texts shown stops facts ++ flat_map (position_texts shown facts) (rows_of facts)
+
+-- ---- the page of changes
+
+-- The rows of the page of changes: one for each record that is new, changed and gone.
+abbrev pub change_texts : List (List ℕ) → List (List ℕ) → List Fact → List Fact → List Fact → List RowText
+change_texts earlier later new changed gone =
+    flat_map (position_texts later new) (rows_of new) ++ flat_map (position_texts later changed) (rows_of changed)
+    ++ flat_map (position_texts earlier gone) (rows_of gone)

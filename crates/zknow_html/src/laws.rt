@@ -1,5 +1,5 @@
 //! Laws of the definitions, each the contract of a function that does nothing.
-ghost use Rattle.zknow_html.specs.Laws.{PageLaw, RowsLaw};
+ghost use Rattle.zknow_html.specs.Laws.{PageLaw, ChangePageLaw, RowsLaw, ChangeRowsLaw};
 
 /// The page is a document of the small HTML of `zhtml`, whatever the heading, the names, the stops and the facts are.
 pub fn page_law()
@@ -12,4 +12,14 @@ pub fn page_law()
 /// differs.
 pub fn rows_law()
     ensures { RowsLaw }
+{}
+
+/// The page of changes is such a document, whatever the heading, the names and the facts are.
+pub fn change_page_law()
+    ensures { ChangePageLaw }
+{}
+
+/// Read back, the page of changes has a row for each record that is new, changed and gone, in order and each once.
+pub fn change_rows_law()
+    ensures { ChangeRowsLaw }
 {}

@@ -5,6 +5,7 @@
 
 mod catalogues;
 mod cells;
+mod changes;
 mod descriptions;
 mod differences;
 mod fields;
@@ -13,4 +14,5 @@ mod page;
 mod records;
 mod style;
 
+pub use changes::{ChangedParts, print_change_page};
 pub use page::print_html;

@@ -4,7 +4,7 @@ ghost use Rattle.zhtml.specs.declared.elements.Element.TheVariants.{Div};
 ghost use Rattle.zhtml.specs.Markup.{start_tag};
 ghost use Rattle.zknow_titles.specs.Names.{shown_names};
 ghost use Rattle.zknow_html.specs.Laws.{IsDocument, HasRowTexts};
-ghost use Rattle.zknow_html.specs.Page.{encoding, viewport, policy_element, metadata, head, region, section_start, section_end, catalogues_part, records_part, tables, body, page};
+ghost use Rattle.zknow_html.specs.Page.{encoding, viewport, policy_element, metadata, head, region, section_start, section_end, catalogues_part, part_with, tables, body, page};
 ghost use Rattle.zknow_html.specs.Rows.{row_texts};
 
 use crate::catalogues::put_catalogues;
@@ -76,7 +76,7 @@ fn put_metadata(alloc: Global, policy: &str, out: &mut String) -> Result<(), All
 
 /// Appends what is told of the page.
 #[tactic(auto, unfolding(crate::specs::Page::head))]
-fn put_head(
+pub(crate) fn put_head(
     alloc: Global,
     policy: &str,
     style: &str,
@@ -167,18 +167,20 @@ fn put_catalogues_part(
     put_section_end(out)
 }
 
-/// Appends the part of the records.
+/// Appends a part with records.
 #[tactic(auto, unfolding(crate::specs::Page::section))]
-fn put_records_part(
+pub(crate) fn put_part_with(
     alloc: Global,
+    name: &str,
+    heading: &str,
     shown: &[String],
     knowledge: &Knowledge,
     out: &mut String,
 ) -> Result<(), AllocError>
     ensures { OnOk result (string_bytes out.new ≡ string_bytes out.old
-        ++ records_part (map string_bytes shown.now) knowledge.now) }
+        ++ part_with name.now heading.now (map string_bytes shown.now) knowledge.now) }
 {
-    put_section_start(alloc, "records", "Records", out)?;
+    put_section_start(alloc, name, heading, out)?;
     let rows = knowledge.rows()?;
     put_table(alloc, shown, knowledge, &rows, out)?;
     put_section_end(out)
@@ -197,7 +199,7 @@ fn put_tables(
         ++ tables (map string_bytes shown.now) stops.now knowledge.now) }
 {
     put_catalogues_part(alloc, shown, knowledge, stops, out)?;
-    put_records_part(alloc, shown, knowledge, out)
+    put_part_with(alloc, "records", "Records", shown, knowledge, out)
 }
 
 /// Appends what is shown.

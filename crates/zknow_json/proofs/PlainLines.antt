@@ -1,4 +1,4 @@
--- The text consists of lines of JSON, whatever the names, the stops and the facts are.
+-- The texts consist of lines of JSON, whatever the names, the stops, the facts and the changes are.
 use Rattle.std.proofs.Common.{◌≡◌, ℕ, ◌+◌, ◌≤◌, ◌<◌, ℤ, pos, Bool, true, false, cond, Option, Some, None, List, [], ◌∷◌, ◌++◌, refl, sym, ap, subst, ◌∙◌, arith}
 use Rattle.std.specs.Prelude.{◌==◌, All, codes, slice_get}
 use Rattle.std.specs.List.{flat_map}
@@ -31,11 +31,16 @@ use Rattle.zknow.specs.Known.{counts_at, records_at, is_failed_at, diags_at}
 use Rattle.zknow.specs.List.Listing.{ascending, block_key_of, row_key_of}
 use Rattle.zknow.specs.Tables.Keys.{set_cmp, row_cmp}
 use Rattle.std.specs.List.{filter_map}
+use Rattle.zknow_changes.specs.declared.between.Change.{Change}
+use Rattle.zknow_changes.specs.declared.between.ChangeKind.{ChangeKind}
+use Rattle.zknow_changes.specs.declared.between.ChangeKind.TheVariants.{New, Changed, Gone}
+use Rattle.zknow_changes.specs.Lists.{kind_name, names_for}
 use Rattle.zknow_stops.specs.declared.detail.Detail.{Detail}
 use Rattle.zknow_stops.specs.declared.stop.Stop.{Stop}
 use Rattle.zknow_stops.specs.Details.{detail_words}
 use Rattle.zknow_stops.specs.Laws.{IsPrintable}
 use Rattle.zknow_stops.proofs.Words.{words_printable}
+use Rattle.zknow_json.specs.Changes.{change_line, change_lines}
 use Rattle.zknow_json.specs.Laws.{object_text, HasNoControl, IsJsonObject, AreJsonLines}
 use Rattle.zknow_json.specs.Lines.{json_lines}
 use Rattle.zknow_json.specs.Members.{line}
@@ -277,3 +282,25 @@ text_has_lines names stops facts =
     (all_lines (set_lines names facts) (set_has_lines names facts) (ascending set_cmp (filter_map block_key_of facts)))
     (stops_have_lines names 0 stops))
     (all_lines (row_line names facts) (row_has_lines names facts) (ascending row_cmp (filter_map row_key_of facts)))
+
+-- ---- the lines of changes
+
+kind_name_utf8 : (kind : ChangeKind) → IsUtf8 (kind_name kind)
+kind_name_utf8 New = IsUtf8-are_ascii (codes "new") refl
+kind_name_utf8 Changed = IsUtf8-are_ascii (codes "changed") refl
+kind_name_utf8 Gone = IsUtf8-are_ascii (codes "gone") refl
+
+change_is_line : (earlier later : List (List ℕ)) (c : Change) → AreJsonLines (change_line earlier later c)
+unfolding change_line
+change_is_line earlier later c =
+    one_line (object_plain refl
+    (both (both (text_plain (codes "change") (kind_name c.kind) refl (kind_name_utf8 c.kind))
+    (row_head_plain (body_kind c.rec.body) (names_for earlier later c.kind) c.row (kind_utf8 c.rec.body)))
+    (body_plain c.rec c.rec.body)))
+
+-- the whole text
+pub changes_have_lines : (earlier later : List (List ℕ)) (changes : List Change)
+    → AreJsonLines (change_lines earlier later changes)
+unfolding change_lines
+changes_have_lines earlier later changes =
+    all_lines (change_line earlier later) (change_is_line earlier later) changes

@@ -1,4 +1,4 @@
--- The text consists of lines of JSON, whatever the names, the stops and the facts are.
+-- The texts consist of lines of JSON, whatever the names, the stops, the facts and the changes are.
 use Rattle.std.specs.Prelude.{◌≡◌, ◌≤◌, ℕ, Option, List, ◌++◌, All, codes}
 use Rattle.std.specs.List.{flat_map}
 use Rattle.std.specs.Str.{IsUtf8}
@@ -8,6 +8,8 @@ use Rattle.json.specs.Strict.{HasUniqueKeys}
 use Rattle.json.specs.Tree.{json_tokens, MembersHaveNumbers}
 use Rattle.zknow.specs.declared.fact.Fact.{Fact}
 use Rattle.zknow_stops.specs.declared.stop.Stop.{Stop}
+use Rattle.zknow_changes.specs.declared.between.Change.{Change}
+use Rattle.zknow_json.specs.Changes.{change_lines}
 use Rattle.zknow_json.specs.Lines.{json_lines}
 
 -- the text of a JSON object with these members
@@ -37,3 +39,8 @@ abbrev pub LinesLaw : Type 0
 LinesLaw =
     (names : List (List ℕ)) (stops : List (Option Stop)) (facts : List Fact)
     → AreJsonLines (json_lines names stops facts)
+
+-- whatever the names of both files and the changes are
+abbrev pub ChangeLinesLaw : Type 0
+ChangeLinesLaw =
+    (earlier later : List (List ℕ)) (changes : List Change) → AreJsonLines (change_lines earlier later changes)

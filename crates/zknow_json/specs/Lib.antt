@@ -1,3 +1,4 @@
+pub mod Changes
 pub mod Fields
 pub mod Holdings
 pub mod Laws

@@ -1,7 +1,8 @@
 //! What is known as lines of JSON, for programs: an object for each line of the list, and for each catalogue that
-//! stopped.
+//! stopped; and the changes between two saved files, an object for each.
 #![tactic(auto)]
 
+mod changes;
 mod encoding;
 mod fields;
 mod holdings;
@@ -12,4 +13,5 @@ mod records;
 mod sets;
 mod stops;
 
+pub use changes::print_change_lines;
 pub use lines::print_json;

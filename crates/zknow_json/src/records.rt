@@ -63,7 +63,7 @@ fn put_contents(
 }
 
 /// Returns the type of a record.
-fn kind_of(body: &RecordBody) -> &'static str
+pub(crate) fn kind_of(body: &RecordBody) -> &'static str
     ensures { result.now ≡ body_kind body.now }
 {
     match body {
@@ -74,7 +74,7 @@ fn kind_of(body: &RecordBody) -> &'static str
 }
 
 /// Writes what a line has of a record.
-fn put_body(alloc: Global, record: &Record, line: &mut Line) -> Result<(), AllocError>
+pub(crate) fn put_body(alloc: Global, record: &Record, line: &mut Line) -> Result<(), AllocError>
     ensures { OnOk result (line.new ≡ line.old ++ body_members «record».now «record».now.body) }
 {
     match &record.body {
@@ -115,7 +115,12 @@ fn put_objects(alloc: Global, records: &[Record], line: &mut Line) -> Result<(),
 
 /// Writes what the line of a row begins with.
 #[tactic(auto, unfolding(crate::specs::Records::row_head))]
-fn put_row_head(kind: &str, names: &Names, key: &RowKey, line: &mut Line) -> Result<(), AllocError>
+pub(crate) fn put_row_head(
+    kind: &str,
+    names: &Names,
+    key: &RowKey,
+    line: &mut Line,
+) -> Result<(), AllocError>
     ensures { OnOk result (line.new ≡ line.old ++ row_head kind.now names.now key.now) }
 {
     put_head(kind, names, key.target, key.set, line)?;

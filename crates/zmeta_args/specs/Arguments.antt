@@ -11,7 +11,7 @@ use Rattle.zmeta_args.specs.declared.arguments.LimitOptions.{LimitOptions}
 use Rattle.zmeta_args.specs.declared.arguments.CommandLine.{CommandLine}
 use Rattle.zmeta_args.specs.declared.arguments.Arguments.{Arguments}
 use Rattle.zmeta_args.specs.declared.arguments.TheConstants.{HEADING}
-use Rattle.zmeta_args.specs.declared.arguments.Arguments.TheVariants.{Show, Dialogue, Pqf, Join, Records, Run, Ask, Replay, Loop, Serve}
+use Rattle.zmeta_args.specs.declared.arguments.Arguments.TheVariants.{Show, Dialogue, Pqf, Join, New, Records, Run, Ask, Replay, Loop, Serve}
 use Rattle.zmeta_args.specs.Texts.{texts_of, now_of}
 
 -- the argument has this value
@@ -121,9 +121,13 @@ AreArgumentsOf name found (Join first others saved quiet view) =
     (name ≡ codes "join") × HasValue found (codes "A") first.now
     × HasValues found (codes "B") (texts_of others.items) × (now_of saved ≡ first_value found (codes "save"))
     × HasFlag found (codes "quiet") quiet × HasView found view
-AreArgumentsOf name found (Records first others only syntax conflicts) =
+AreArgumentsOf name found (New earlier later view) =
+    (name ≡ codes "new") × HasValue found (codes "OLD") earlier.now × HasValue found (codes "NEW") later.now
+    × HasView found view
+AreArgumentsOf name found (Records first others since only syntax conflicts) =
     (name ≡ codes "records") × HasValue found (codes "A") first.now
-    × HasValues found (codes "B") (texts_of others.items) × HasValues found (codes "only") (texts_of only.items)
+    × HasValues found (codes "B") (texts_of others.items) × (now_of since ≡ first_value found (codes "new"))
+    × HasValues found (codes "only") (texts_of only.items)
     × (now_of syntax ≡ first_value found (codes "syntax")) × HasFlag found (codes "conflicts") conflicts
 AreArgumentsOf name found (Run world saved search view) =
     (name ≡ codes "run") × HasWorld found world.now (now_of saved) search view

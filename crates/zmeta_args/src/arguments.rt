@@ -91,6 +91,12 @@ pub enum Arguments<'a> {
         quiet: bool,
         view: View<'a>,
     },
+    /// Print what the later of two saved files has that the earlier one has not.
+    New {
+        earlier: &'a str,
+        later: &'a str,
+        view: View<'a>,
+    },
     /// Ask the targets of a world file in memory, and print the list. Save the facts if `saved` is a path.
     Run {
         world: &'a str,
@@ -99,10 +105,12 @@ pub enum Arguments<'a> {
         view: View<'a>,
     },
     /// Write the records of saved files: of one syntax, or of any; of the catalogues of these names, or of all if
-    /// `only` is empty. With `conflicts`, write all records of a position that has several, else none of them.
+    /// `only` is empty. With `conflicts`, write all records of a position that has several, else none of them. Write
+    /// just the records that are new or changed since the saved file `since`, if it is a path.
     Records {
         first: &'a str,
         others: Vec<&'a str>,
+        since: Option<&'a str>,
         only: Vec<&'a str>,
         syntax: Option<&'a str>,
         conflicts: bool,
@@ -301,6 +309,7 @@ fn records_of<'a>(
     Ok(Some(Arguments::Records {
         first,
         others,
+        since: found.get_str("new"),
         only,
         syntax: found.get_str("syntax"),
         conflicts: found.get_flag("conflicts"),
@@ -420,6 +429,11 @@ fn single_of<'a>(name: &str, found: &ArgMatches<'a>) -> Option<Arguments<'a>>
     match name {
         "pqf" => Some(Arguments::Pqf {
             text: found.get_str("TEXT")?,
+        }),
+        "new" => Some(Arguments::New {
+            earlier: found.get_str("OLD")?,
+            later: found.get_str("NEW")?,
+            view: view_of(found),
         }),
         "replay" => Some(Arguments::Replay {
             trace: found.get_str("TRACE")?,

@@ -2,9 +2,9 @@
 
 use crate::options::{
     ANY, ASKED_SYNTAX, AT_ONCE, AUTHOR, CONFLICTS, CONNECT, CommandOption, ELEMENTS, EXPLAIN,
-    FIELDS, HEADING, HEX, HTML, IPV4, IPV6, ISBN, JSON, ONLY, ONLY_OF, PATIENCE, QUERY, QUIET,
-    RECORDS as RECORDS_WANTED, SAVE, SHOWN_ONLY, SHOWN_TRACE, SUBJECT, SYNTAX, TITLE, TITLES,
-    TRACE, WITHIN, option,
+    FIELDS, HEADING, HEX, HTML, IPV4, IPV6, ISBN, JSON, NEW_SINCE, ONLY, ONLY_OF, PATIENCE, QUERY,
+    QUIET, RECORDS as RECORDS_WANTED, SAVE, SHOWN_ONLY, SHOWN_TRACE, SUBJECT, SYNTAX, TITLE,
+    TITLES, TRACE, WITHIN, option,
 };
 use clap::{Arg, ArgAction, Command, value_parser};
 use std::alloc::{AllocError, Global};
@@ -157,6 +157,47 @@ and one file of a year is made of those of its months by
     ],
 };
 
+const NEW: Form = Form {
+    name: "new",
+    about: "Shows which records are new, changed or gone between two searches",
+    example: "OLD and NEW are saved files, as of a search last month and the same search today.
+They need not be of the same catalogues: those with one name are compared. Of
+each, prints the records of NEW that OLD does not have, wherever they stand:
+'new', or 'changed' if OLD has another record with the same control number (the
+MARC field 001); then 'gone', and the records of OLD that NEW has neither as
+they were nor with their control number. A record that was not asked for is
+gone too, so ask for as many both times. 'zmeta records --new OLD NEW' writes
+the records that are new or changed.
+
+Example, what is new since last month:
+  zmeta ask --save today.saved catalogues
+  zmeta new --titles last-month.saved today.saved
+prints lines as
+  1 new
+    3  city library  2026  Sand and stars / R. Ito
+  0 changed
+  0 gone",
+    wants: &[
+        Argument {
+            id: "OLD",
+            help: "A file that --save made, the earlier one",
+            has_hyphen: false,
+            is_count: false,
+            is_many: false,
+            is_needed: true,
+        },
+        Argument {
+            id: "NEW",
+            help: "A file that --save made, the later one",
+            has_hyphen: false,
+            is_count: false,
+            is_many: false,
+            is_needed: true,
+        },
+    ],
+    may: &[TITLES, FIELDS, JSON, HEX, HTML, HEADING, EXPLAIN],
+};
+
 const RECORDS: Form = Form {
     name: "records",
     about: "Writes the records that searches of the same catalogues brought",
@@ -168,7 +209,8 @@ are known for one position, all of these are left out, or none with
 diagnostics that stand for records, records of another syntax than the one
 asked for, and structured records, as OPAC and GRS-1. --only takes the records
 of some catalogues alone. SYNTAX is marc21, unimarc, xml, sutrs, opac, grs1 or
-an object identifier.
+an object identifier. --new takes just the records that 'zmeta new OLD' calls
+new or changed.
 
 Example, the MARC 21 records that a search brought from loc:
   zmeta ask --save books.saved catalogues
@@ -184,7 +226,7 @@ Example, the MARC 21 records that a search brought from loc:
             is_needed: false,
         },
     ],
-    may: &[ONLY_OF, SYNTAX, CONFLICTS, EXPLAIN],
+    may: &[NEW_SINCE, ONLY_OF, SYNTAX, CONFLICTS, EXPLAIN],
 };
 
 const RUN: Form = Form {
@@ -403,7 +445,7 @@ prints lines as
     ],
 };
 
-const FORMS: [Form; 9] = [ASK, REPLAY, RUN, LOOP, JOIN, RECORDS, SERVE, SHOW, PQF];
+const FORMS: [Form; 10] = [ASK, REPLAY, RUN, LOOP, JOIN, NEW, RECORDS, SERVE, SHOW, PQF];
 
 fn clap_argument(alloc: Global, wanted: &Argument) -> Arg<'static> {
     let argument = Arg::new(alloc, wanted.id)

@@ -324,6 +324,17 @@ pub(crate) const ONLY_OF: CommandOption = CommandOption {
     needs: &[],
 };
 
+pub(crate) const NEW_SINCE: CommandOption = CommandOption {
+    id: "new",
+    short: None,
+    help: "Writes just the records that are new or changed since the saved file OLD",
+    value: Some("OLD"),
+    is_many: false,
+    most_seconds: None,
+    excludes: &[],
+    needs: &[],
+};
+
 pub(crate) const TRACE: CommandOption = CommandOption {
     id: "trace",
     short: None,

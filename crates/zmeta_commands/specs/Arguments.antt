@@ -7,7 +7,7 @@ use Rattle.clap.specs.declared.error.kind.ErrorKind.TheVariants as kinds
 use Rattle.zmeta_args.specs.declared.arguments.Arguments.{Arguments}
 use Rattle.zmeta_args.specs.declared.arguments.View.{View}
 use Rattle.zmeta_args.specs.declared.arguments.CommandLine.{CommandLine}
-use Rattle.zmeta_args.specs.declared.arguments.Arguments.TheVariants.{Show, Dialogue, Pqf, Join, Records, Run, Ask, Replay, Loop, Serve}
+use Rattle.zmeta_args.specs.declared.arguments.Arguments.TheVariants.{Show, Dialogue, Pqf, Join, New, Records, Run, Ask, Replay, Loop, Serve}
 use Rattle.zmeta_args.specs.Texts.{texts_of, now_of}
 use Rattle.zmeta_args.specs.Arguments.{IsParsed}
 use Rattle.zoom.specs.Limits.{Limits}
@@ -16,7 +16,8 @@ use Rattle.zmeta_offline.specs.Join.{AfterJoin, AfterJoinSaved}
 use Rattle.zmeta_offline.specs.Merged.{AfterMerge}
 use Rattle.zmeta_commands.specs.Loop.{AfterLoop}
 use Rattle.zmeta_offline.specs.Pqf.{AfterPqf}
-use Rattle.zmeta_offline.specs.Records.{AfterRecords}
+use Rattle.zmeta_offline.specs.New.{AfterNew}
+use Rattle.zmeta_offline.specs.News.{AfterRecords}
 use Rattle.zmeta_commands.specs.Run.{AfterRun}
 use Rattle.zmeta_commands.specs.Searches.{search_of}
 use Rattle.zmeta_commands.specs.Serve.{Serves, AfterServe}
@@ -60,9 +61,13 @@ AfterCall Stream serves octets logged relogged (Pqf text) old new before after s
 AfterCall Stream serves octets logged relogged (Join first others saved quiet view) old new before after status =
     (after.input ≡ before.input) × AfterJoinCall view octets (first.now ∷ texts_of others.items) (now_of saved) quiet
     old new (written before) (written after) status
-AfterCall Stream serves octets logged relogged (Records first others only syntax conflicts) old new before after
+AfterCall Stream serves octets logged relogged (New earlier later view) old new before after status =
+    (new ≡ old) × (after.input ≡ before.input)
+    × AfterNew octets earlier.now later.now view (written before) (written after) status
+AfterCall Stream serves octets logged relogged (Records first others since only syntax conflicts) old new before after
     status = (new ≡ old) × (after.input ≡ before.input)
-    × AfterRecords (record { only = texts_of only.items; syntax = now_of syntax; conflicts = conflicts }) octets
+    × AfterRecords
+    (record { since = now_of since; only = texts_of only.items; syntax = now_of syntax; conflicts = conflicts }) octets
     (first.now ∷ texts_of others.items) (written before) (written after) status
 AfterCall Stream serves octets logged relogged (Run world saved search view) old new before after status =
     (after.input ≡ before.input) × AfterRun (search_of search) view world.now (now_of saved) (octets world.now) old new

@@ -26,6 +26,7 @@ use zmeta_devices::input::Input;
 use zmeta_devices::output::Output;
 use zmeta_offline::join::{join_named, join_saved};
 use zmeta_offline::merged::merge_named;
+use zmeta_offline::new::new_named;
 use zmeta_offline::pqf::pqf;
 use zmeta_offline::records::{Extract, SavedFiles, records_named};
 use zmeta_offline::show::show;
@@ -183,9 +184,15 @@ fn call<'a, S: Folder + Doors + Net + Clock, R: Read, W: Write, E: Write, P: Wri
             output,
             errors,
         ),
+        Arguments::New {
+            earlier,
+            later,
+            view,
+        } => new_named(alloc, system, earlier, later, view, output, errors),
         Arguments::Records {
             first,
             others,
+            since,
             only,
             syntax,
             conflicts,
@@ -195,6 +202,7 @@ fn call<'a, S: Folder + Doors + Net + Clock, R: Read, W: Write, E: Write, P: Wri
                 others: others.as_slice(),
             };
             let wanted = Extract {
+                since,
                 only: only.as_slice(),
                 syntax,
                 conflicts,

@@ -126,7 +126,7 @@ IsOfReading (NotOid told) = ⊥
 IsOfReading (NoCatalogue told) = ⊥
 IsOfReading _ = Unit {0}
 
-at_reading : (octets : List ℕ → Option (List ℕ)) (path : List ℕ) (f : Fault) → IsFaultAt octets path f → IsOfReading f
+pub at_reading : (octets : List ℕ → Option (List ℕ)) (path : List ℕ) (f : Fault) → IsFaultAt octets path f → IsOfReading f
 at_reading octets path (Read told) h = tt
 at_reading octets path (NotKnowledge refused at) h = tt
 at_reading octets path (NotCanonical refused at) h = tt

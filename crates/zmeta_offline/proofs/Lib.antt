@@ -7,3 +7,6 @@ pub mod Joining
 pub mod Merging
 pub mod Extracting
 mod Querying
+mod Changing
+mod NewsTheory
+pub mod SameViewing

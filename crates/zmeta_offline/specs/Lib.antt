@@ -3,9 +3,12 @@ pub mod Digits
 pub mod Join
 pub mod Merged
 pub mod Names
+pub mod New
+pub mod News
 pub mod Pqf
 pub mod Records
 pub mod Saved
 pub mod Show
 pub mod Steps
 pub mod Views
+pub mod SameViews

@@ -12,7 +12,7 @@ use Rattle.zmeta_args.specs.Texts.{texts_of}
 use Rattle.zmeta_world.specs.Search.{dotted_syntax}
 use Rattle.zmeta_offline.specs.Catalogues.{IsOfCatalogues}
 use Rattle.zmeta_offline.specs.Names.{AreAllKnown, IsFirstUnknown}
-use Rattle.zmeta_devices.specs.Devices.{Device, Outputs, HasGained, HasStopped, AreUnwritten, AfterTellLines, AfterEnd}
+use Rattle.zmeta_devices.specs.Devices.{Outputs, HasGained, HasStopped, AreUnwritten, AfterTellLines}
 use Rattle.zmeta_offline.specs.Join.{AreJoined, IsRefusedAmong, IsKnownStatus}
 use Rattle.zmeta_offline.specs.declared.records.Extract.{Extract}
 use Rattle.zmeta_devices.specs.declared.fault.Fault.{Fault}
@@ -57,9 +57,11 @@ left_text left =
 
 -- ---- the command
 
--- the names of the catalogues, or none for all; the record syntax by its text, or any; and whether all records of a
--- position that has several are written
+-- the path of an earlier file, if just what is new or changed since then is written; the names of the catalogues, or
+-- none for all; the record syntax by its text, or any; and whether all records of a position that has several are
+-- written
 pub record WantedRecords : Type 0 where
+  pub since : Option (List ℕ)
   pub only : List (List ℕ)
   pub syntax : Option (List ℕ)
   pub conflicts : Bool
@@ -67,7 +69,12 @@ pub record WantedRecords : Type 0 where
 -- the records that are asked for
 abbrev pub extract : Extract → WantedRecords
 extract e =
-    record { only = texts_of e.only.now; syntax = option_map (λ text. text.now) e.syntax; conflicts = e.conflicts }
+    record {
+      since = option_map (λ text. text.now) e.since;
+      only = texts_of e.only.now;
+      syntax = option_map (λ text. text.now) e.syntax;
+      conflicts = e.conflicts;
+    }
 
 -- the octets were written and the lines reported; or the stream failed
 abbrev pub PutRecordsResult : List ℕ → List ℕ → Outputs → Outputs → Result (Unit {0}) Fault → Type 0
@@ -96,8 +103,8 @@ abbrev pub HasNoCatalogue
 HasNoCatalogue octets paths only name =
     (names : List (List ℕ)) × (facts : List Fact) × AreJoined octets names paths facts × IsFirstUnknown only names name
 
--- The result of `records`: the octets and what was left out, or a front of the octets if the stream failed. Nothing
--- was written if a file, the record syntax or a name is refused, or no memory was found.
+-- The result of `records` without an earlier file: the octets and what was left out, or a front of the octets if the
+-- stream failed. Nothing was written if a file, the record syntax or a name is refused, or no memory was found.
 abbrev pub RecordsResult
     : WantedRecords → (List ℕ → Option (List ℕ)) → List (List ℕ) → Outputs → Outputs → Result Status Fault → Type 0
 RecordsResult e octets paths before after (Ok status) = (facts : List Fact) × (oid : Option (List ℕ))
@@ -114,10 +121,3 @@ RecordsResult e octets paths before after (Err (NoCatalogue name)) =
     HasNoCatalogue octets paths e.only name.now × AreUnwritten before after
 RecordsResult e octets paths before after (Err Memory) = AreUnwritten before after
 RecordsResult e octets paths before after (Err f) = IsRefusedAmong octets paths f × AreUnwritten before after
-
--- the streams and the status after `records`; `between` is standard error before a fault is reported
-abbrev pub AfterRecords
-    : WantedRecords → (List ℕ → Option (List ℕ)) → List (List ℕ) → Outputs → Outputs → Status → Type 0
-AfterRecords e octets paths before after status = (result : Result Status Fault) × (between : Device)
-    × RecordsResult e octets paths before (record after { errors = between }) result
-    × AfterEnd result between after.errors status

@@ -53,7 +53,7 @@ fn add_facts(
 }
 
 /// Returns the facts about the chosen catalogues.
-fn chosen_facts(
+pub(crate) fn chosen_facts(
     alloc: Global,
     knowledge: &Knowledge,
     names: &Names,

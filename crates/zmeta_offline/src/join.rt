@@ -137,7 +137,7 @@ fn list_facts<'o, W: Write>(
 }
 
 /// Writes the list, and returns the status.
-fn put_list<'o, W: Write>(
+pub(crate) fn put_list<'o, W: Write>(
     output: &mut Output<'o, W>,
     text: &[u8],
     status: Status,
@@ -216,7 +216,7 @@ fn absorb_named<'a, F: Folder>(
 }
 
 /// Returns the facts and names of the file at a path.
-fn load_named<'a, F: Folder>(
+pub(crate) fn load_named<'a, F: Folder>(
     alloc: Global,
     files: &F,
     path: &'a str,

@@ -4,8 +4,11 @@
 mod catalogues;
 mod digits;
 pub mod join;
+pub mod laws;
 pub mod merged;
 pub mod names;
+pub mod new;
+mod news;
 pub mod pqf;
 pub mod records;
 pub mod saved;

@@ -5,10 +5,12 @@ ghost use Rattle.std.specs.Option.{option_map};
 ghost use Rattle.zmeta_devices.specs.Devices.{outputs};
 ghost use Rattle.zknow_records.specs.Records.{records_octets, left_out};
 ghost use Rattle.zmeta_args.specs.Texts.{texts_of};
-ghost use Rattle.zmeta_offline.specs.Records.{SyntaxResult, left_line, left_text, extract, PutRecordsResult, RecordsResult, AfterRecords};
+ghost use Rattle.zmeta_offline.specs.Records.{SyntaxResult, left_line, left_text, extract, PutRecordsResult, RecordsResult};
+ghost use Rattle.zmeta_offline.specs.News.{RecordsCallResult, AfterRecords};
 
 use crate::catalogues::facts_of;
 use crate::join::{known_status, load_all};
+use crate::news::news_files;
 use std::alloc::{AllocError, Global};
 use std::io::Write;
 use zber::{Oid, OidError};
@@ -22,6 +24,9 @@ use zmeta_world::search::dotted_syntax;
 /// Which records are written.
 #[derive(Clone, Copy)]
 pub struct Extract<'a, 'w> {
+    /// The path of an earlier saved file. If there is one, just the records that are new or changed since then are
+    /// written.
+    pub since: Option<&'a str>,
     /// The names of their catalogues. If there are none, records of all catalogues are written.
     pub only: &'w [&'a str],
     /// Their record syntax, as a name or an object identifier in dotted form. If there is none, records of any syntax
@@ -46,8 +51,11 @@ pub struct SavedFiles<'a, 'w> {
 /// If a file is refused, the syntax is not an object identifier, or no catalogue has a given name, writes the reason on
 /// `errors` and nothing else.
 ///
+/// With an earlier file, the records of the chosen catalogues are written that are new or changed since then, and no
+/// others. That file is read first.
+///
 /// Returns `Refused` if a file, the syntax or a name is refused, or a stream failed, `errors` too. Else returns
-/// `Failed` if a search or an association of the chosen catalogues failed.
+/// `Failed` if a search or an association of the chosen catalogues failed, in the earlier file too.
 pub fn records_named<'a, 'o: 'a, F: Folder, W: Write, E: Write>(
     alloc: Global,
     files: &'a F,
@@ -61,8 +69,29 @@ pub fn records_named<'a, 'o: 'a, F: Folder, W: Write, E: Write>(
         (outputs W.contents E.contents output.old errors.old)
         (outputs W.contents E.contents output.new errors.new) result }
 {
-    let answer = records_files(alloc, files, saved, wanted, output, errors);
+    let answer = write_wanted(alloc, files, saved, wanted, output, errors);
     end(answer, errors)
+}
+
+/// Writes all records, or those that are new or changed since the earlier file. Reports what was left out, and returns
+/// the status.
+fn write_wanted<'a, 'o: 'a, F: Folder, W: Write, E: Write>(
+    alloc: Global,
+    files: &'a F,
+    saved: SavedFiles<'a, '_>,
+    wanted: Extract<'a, '_>,
+    output: &mut Output<'o, W>,
+    errors: &mut Output<'_, E>,
+) -> Result<Status, Fault<'a>>
+    ensures { RecordsCallResult (option_map (λ text. text.now) wanted.entry.since) (extract wanted.entry)
+        (F.octets files.now) (saved.entry.first.now ∷ texts_of saved.entry.others.now)
+        (outputs W.contents E.contents output.old errors.old)
+        (outputs W.contents E.contents output.new errors.new) result }
+{
+    match wanted.since {
+        None => records_files(alloc, files, saved, wanted, output, errors),
+        Some(earlier) => news_files(alloc, files, earlier, saved, wanted, output, errors),
+    }
 }
 
 /// Writes the records, reports what was left out, and returns the status.
@@ -94,7 +123,7 @@ fn records_files<'a, 'o: 'a, F: Folder, W: Write, E: Write>(
 }
 
 /// Returns the octets of the records, and the counts of what was left out.
-fn take_records(
+pub(crate) fn take_records(
     alloc: Global,
     knowledge: &Knowledge,
     syntax: &Option<Oid>,
@@ -109,7 +138,7 @@ fn take_records(
 }
 
 /// Returns the object identifier that a text names, or `None` if there is no text.
-fn syntax_of<'a>(alloc: Global, text: Option<&'a str>) -> Result<Option<Oid>, Fault<'a>>
+pub(crate) fn syntax_of<'a>(alloc: Global, text: Option<&'a str>) -> Result<Option<Oid>, Fault<'a>>
     ensures { SyntaxResult (option_map (λ text. text.now) text.entry) result }
 {
     let Some(text) = text else {
@@ -138,7 +167,7 @@ fn put_left(alloc: Global, kind: &str, count: u64, text: &mut Vec<u8>) -> Result
 }
 
 /// Returns the lines for what was left out.
-fn left_lines(alloc: Global, left: &LeftOut) -> Result<Vec<u8>, AllocError>
+pub(crate) fn left_lines(alloc: Global, left: &LeftOut) -> Result<Vec<u8>, AllocError>
     ensures { IfOk result (λ text. text.items ≡ left_text left.now) }
 {
     let mut text = Vec::new(alloc);
@@ -160,7 +189,7 @@ fn left_lines(alloc: Global, left: &LeftOut) -> Result<Vec<u8>, AllocError>
 }
 
 /// Writes the octets, and the lines on `errors`.
-fn put_records<'o, W: Write, E: Write>(
+pub(crate) fn put_records<'o, W: Write, E: Write>(
     octets: &[u8],
     lines: &[u8],
     output: &mut Output<'o, W>,

@@ -1,0 +1,5 @@
+mod HeldTheory
+mod PresenceTheory
+mod ChangeTheory
+mod OrderTheory
+mod SideTheory

@@ -1,0 +1,6 @@
+pub mod Numbers
+pub mod Records
+pub mod Changes
+pub mod Indexes
+pub mod Lists
+pub mod Parts
