@@ -56,6 +56,12 @@ RUNS = [
     (["run", "--title", "dune", "--author", "herbert", "--records", "1", "--syntax", "marc21",
       "examples/libraries.world"], None),
     (["records", "--only", "library", "--syntax", "marc21", "examples/monday.saved"], None),
+    # what is new, changed and gone, in each form
+    (["new", "examples/monday.saved", "examples/tuesday.saved"], None),
+    (["new", "--titles", "tests/out-of-memory/titles-one.saved", "tests/out-of-memory/titles-two.saved"], None),
+    (["new", "--json", "tests/out-of-memory/titles-one.saved", "tests/out-of-memory/titles-two.saved"], None),
+    (["new", "--html", "examples/monday.saved", "examples/tuesday.saved"], None),
+    (["records", "--new", "tests/out-of-memory/titles-one.saved", "tests/out-of-memory/titles-two.saved"], None),
     # wrong words, and help
     (["run"], None),
     (["show", "--hex"], None),

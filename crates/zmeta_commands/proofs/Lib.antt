@@ -8,3 +8,6 @@ pub mod Calling
 pub mod Tracing
 pub mod Planning
 pub mod Replaying
+pub mod Showing
+pub mod Repeated
+pub mod Reprinted

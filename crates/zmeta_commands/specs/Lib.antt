@@ -11,3 +11,4 @@ pub mod Serve
 pub mod Stops
 pub mod Traced
 pub mod Worlds
+pub mod Replayed

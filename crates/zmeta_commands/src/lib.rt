@@ -8,6 +8,7 @@ mod dialogue;
 pub mod doors;
 pub mod failures;
 pub mod finished;
+pub mod laws;
 pub mod looped;
 mod progress;
 pub mod replay;

@@ -1,5 +1,6 @@
 -- What a search was given is read again of the entries that tell it.
-use Rattle.std.proofs.Common.{◌≡◌, refl, sym, ◌∙◌, ap, subst, ℕ, true, List, [], ◌∷◌, ◌++◌, Option, Some, None, is_some, if◌then◌else◌, append_assoc}
+use Rattle.std.proofs.Common.{◌≡◌, refl, sym, ◌∙◌, ap, subst, ℕ, Bool, true, false, List, [], ◌∷◌, ◌++◌, Option, Some, None, is_some, if◌then◌else◌, append_assoc}
+use Rattle.std.proofs.lemmas.Option.{same_Some}
 use Rattle.std.specs.Option.{option_and_then}
 use Rattle.zoom_trace.specs.declared.entry.Given.{Given}
 use Rattle.zoom_trace.specs.declared.entry.TraceEntry.{TraceEntry}
@@ -11,7 +12,7 @@ use Rattle.zmeta_trace.specs.declared.parts.Part.{Part}
 use Rattle.zmeta_trace.specs.declared.parts.Part.TheVariants as parts
 use Rattle.zmeta_trace.specs.declared.parts.Measure.TheVariants as measures
 use Rattle.zmeta_trace.specs.Heads.{text_of, number_of, first_given, first_text, first_number, behind, behind_text, search_in, behind_search, with_name, names_in, behind_names, begun_in, ended, with_begun, with_world, head_in, HeadTexts}
-use Rattle.zmeta_trace.specs.Given.{text_entries, search_entries, name_entries, begun_entries, text_entry, HeadLaw}
+use Rattle.zmeta_trace.specs.Given.{text_entries, search_entries, name_entries, begun_entries, head_entries, text_entry, HeadLaw, OneHeadLaw}
 
 -- ---- what stands behind gives no such part
 
@@ -225,3 +226,56 @@ head_read h rest none =
     ∙ append_assoc (search_entries h.search) (name_entries h.only) (begun_entries h.begun ++ rest) in
     ap (λ (l : List TraceEntry). with_world (Some h.world) (text_entry parts.World h.world ∷ l)) tail
     ∙ parts_read h (text_entry parts.World h.world) rest none
+
+-- ---- a head that limits all
+
+begun_total : (b : Begun) (n : ℕ) (es : List TraceEntry) → b.total ≡ Some n
+    → begun_in (begun_entries b ++ es) ≡ (Some b, es)
+unfolding begun_in
+begun_total b n es limited =
+    subst (λ (t : Option ℕ). begun_in (opening b.start b.manner
+    (record { connect = b.connect; patience = b.patience }) t ++ es) ≡ (Some (record b { total = t }), es))
+    (sym limited) refl
+
+-- the head, unless something more was given behind it
+total_tail : (h : HeadTexts) (e : TraceEntry) (tail rest : List TraceEntry) → search_in tail ≡ h.search
+    → names_in (behind_search tail) ≡ h.only
+    → begun_in (behind_names (behind_search tail)) ≡ (Some h.begun, rest)
+    → with_world (Some h.world) (e ∷ tail) ≡ ended (is_some (first_given rest)) h rest
+total_tail h e tail rest s n b =
+    let begun : Option Begun × List TraceEntry = begun_in (behind_names (behind_search tail)) in
+    ap (λ (z : SearchTexts). with_begun h.world z (names_in (behind_search tail)) begun.0 begun.1) s
+    ∙ ap (λ (z : List (List ℕ)). with_begun h.world h.search z begun.0 begun.1) n
+    ∙ ap (λ (z : Option Begun × List TraceEntry). with_begun h.world h.search h.only z.0 z.1) b
+
+total_read : (h : HeadTexts) (n : ℕ) (rest : List TraceEntry) → h.begun.total ≡ Some n
+    → head_in (head_entries h ++ rest) ≡ ended (is_some (first_given rest)) h rest
+unfolding head_in
+total_read h n rest limited =
+    let world : TraceEntry = text_entry parts.World h.world in
+    let begun : List TraceEntry = begun_entries h.begun ++ rest in
+    let names : List TraceEntry = name_entries h.only ++ begun in
+    let s = search_read h.search names (names_no_search h.only begun
+    (record { query = refl; records = refl; elements = refl; syntax = refl })) in
+    let m = names_read h.only begun refl in
+    let b = begun_total h.begun n rest limited in
+    let tail =
+    append_assoc (search_entries h.search ++ name_entries h.only) (begun_entries h.begun) rest
+    ∙ append_assoc (search_entries h.search) (name_entries h.only) (begun_entries h.begun ++ rest) in
+    ap (λ (l : List TraceEntry). with_world (Some h.world) (world ∷ l)) tail
+    ∙ total_tail h world (search_entries h.search ++ names) rest s.0 (ap names_in s.1 ∙ m.0)
+    (ap begun_in (ap behind_names s.1 ∙ m.1) ∙ b)
+
+no_head : (k : HeadTexts) → None ≡ Some k → ⊥
+no_head k e = cc
+
+one_ended : (more : Bool) (h k : HeadTexts) (rest others : List TraceEntry) → ended more h rest ≡ (Some k, others)
+    → k ≡ h
+one_ended false h k rest others e = same_Some k h (sym (ap (λ (p : Option HeadTexts × List TraceEntry). p.0) e))
+one_ended true h k rest others e =
+    let none : None ≡ Some k = ap (λ (p : Option HeadTexts × List TraceEntry). p.0) e in
+    absurd (no_head k none)
+
+pub one_head : OneHeadLaw
+one_head h k n rest others limited is =
+    one_ended (is_some (first_given rest)) h k rest others (sym (total_read h n rest limited) ∙ is)

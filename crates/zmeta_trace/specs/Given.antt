@@ -56,3 +56,9 @@ abbrev pub HeadLaw : Type 0
 HeadLaw =
     (h : HeadTexts) (rest : List TraceEntry) → first_given rest ≡ None
     → head_in (head_entries h ++ rest) ≡ (Some h, rest)
+
+-- entries that begin with a head that limits all have no other head, whatever follows
+abbrev pub OneHeadLaw : Type 0
+OneHeadLaw =
+    (h k : HeadTexts) (total : ℕ) (rest others : List TraceEntry) → h.begun.total ≡ Some total
+    → head_in (head_entries h ++ rest) ≡ (Some k, others) → k ≡ h

@@ -1,22 +1,16 @@
 //! The dialogue of a trace, for people: a line for each message, and for what else happened.
+ghost use Rattle.std.specs.Prelude.{◌≡◌, ◌<◌, length, replicate, None, Some, IfOk, OnOk};
+ghost use Rattle.std.specs.Option.{option_map};
+ghost use Rattle.zoom_trace.specs.Replays.{connection_of};
+ghost use Rattle.zmeta_trace.specs.Dialogue.{told_by, count_from, report_words, task_words, notice_words, is_last, new_talk, DialogueResult};
+ghost use Rattle.zmeta_trace.specs.Entries.{AfterEntryOn, PutEntryResult};
+
+use crate::place::{Place, Words, put_words, put_words_if};
+use crate::way::Way;
 use bytes::Bytes;
 use std::alloc::{AllocError, Global};
-use zapdu::{ApduError, from_element, quote};
-use zapdu_lines::print_apdu;
-use zber::{FrameError, Framer, MESSAGE_LIMIT, Node};
 use zoom_asking::{Report, Task};
 use zoom_trace::{Notice, TraceEntry, TraceError, Traced};
-
-/// The nanoseconds of a millisecond.
-const MILLISECOND: u64 = 1_000_000;
-
-/// What went on one way of a connection.
-#[derive(Drop)]
-struct Way {
-    framer: Framer,
-    /// Whether the octets show a fault: nothing more is shown of them.
-    is_over: bool,
-}
 
 /// What is shown of a connection: what was sent, and what was received.
 #[derive(Drop)]
@@ -34,161 +28,41 @@ pub struct Shown<'a> {
     pub chosen: &'a [bool],
 }
 
-/// Where a line stands: the time, in nanoseconds, the name of the catalogue, and the mark of the way, if there is one.
-#[derive(Clone, Copy)]
-struct Place<'a> {
-    at: u64,
-    name: &'a [u8],
-    mark: &'static str,
-}
-
-fn new_way(alloc: Global) -> Way {
-    Way {
-        framer: Framer::new(alloc, MESSAGE_LIMIT),
-        is_over: false,
-    }
-}
-
-fn new_talks(alloc: Global, count: usize) -> Result<Vec<Talk>, AllocError> {
+/// A connection on which nothing went yet, for each of so many.
+fn new_talks(alloc: Global, count: usize) -> Result<Vec<Talk>, AllocError>
+    ensures { IfOk result (λ talks. talks.items ≡ replicate count new_talk) }
+{
     let mut talks = Vec::new(alloc);
     for _ in 0..count {
         talks.push(Talk {
-            sent: new_way(alloc),
-            received: new_way(alloc),
+            sent: Way::new(alloc),
+            received: Way::new(alloc),
         })?;
     }
     Ok(talks)
 }
 
-/// Appends a time in seconds, with three digits behind the point.
-fn put_time(alloc: Global, at: u64, out: &mut Vec<u8>) -> Result<(), AllocError> {
-    let milliseconds = at / MILLISECOND;
-    let seconds = (milliseconds / 1_000).to_string(alloc)?;
-    let rest = (milliseconds % 1_000).to_string(alloc)?;
-    out.extend_from_slice(seconds.as_bytes())?;
-    out.extend_from_slice(b".")?;
-    for _ in rest.len()..3 {
-        out.extend_from_slice(b"0")?;
-    }
-    out.extend_from_slice(rest.as_bytes())
+/// Words without a number.
+fn words(text: &'static str) -> Words
+    ensures { told_by result ≡ (text.now, None) }
+{
+    Words { text, number: None }
 }
 
-/// Appends the front of a line: its time, the name of its catalogue, and its mark.
-fn put_place(alloc: Global, place: &Place<'_>, out: &mut Vec<u8>) -> Result<(), AllocError> {
-    put_time(alloc, place.at, out)?;
-    out.extend_from_slice(b" ")?;
-    quote(alloc, place.name, out)?;
-    out.extend_from_slice(place.mark.as_bytes())?;
-    out.extend_from_slice(b" ")
-}
-
-/// Appends a line of a fault of octets, at an octet of the message.
-fn put_fault(
-    alloc: Global,
-    place: &Place<'_>,
-    name: &str,
-    at: usize,
-    out: &mut Vec<u8>,
-) -> Result<(), AllocError> {
-    put_place(alloc, place, out)?;
-    out.extend_from_slice(name.as_bytes())?;
-    out.extend_from_slice(b" at ")?;
-    let digits = at.to_string(alloc)?;
-    out.extend_from_slice(digits.as_bytes())?;
-    out.extend_from_slice(b"\n")
-}
-
-/// Appends the lines of a message, or a line that says what it is.
-fn put_message(
-    alloc: Global,
-    place: &Place<'_>,
-    message: Node,
-    out: &mut Vec<u8>,
-) -> Result<(), AllocError> {
-    match from_element(alloc, message) {
-        Ok(apdu) => {
-            put_place(alloc, place, out)?;
-            print_apdu(alloc, apdu, out)
-        }
-        Err(ApduError::NotApdu) => {
-            put_place(alloc, place, out)?;
-            out.extend_from_slice(b"not an APDU\n")
-        }
-        Err(ApduError::Malformed { kind, at }) => {
-            put_place(alloc, place, out)?;
-            out.extend_from_slice(kind.name().as_bytes())?;
-            out.extend_from_slice(b" malformed at ")?;
-            let digits = at.to_string(alloc)?;
-            out.extend_from_slice(digits.as_bytes())?;
-            out.extend_from_slice(b"\n")
-        }
-        Err(ApduError::Memory) => Err(AllocError),
-    }
-}
-
-impl Way {
-    /// Appends the lines of the next message, or of a fault. Returns whether there was a message.
-    fn put_next(
-        &mut self,
-        alloc: Global,
-        place: &Place<'_>,
-        out: &mut Vec<u8>,
-    ) -> Result<bool, AllocError> {
-        match self.framer.next() {
-            Ok(None) => Ok(false),
-            Ok(Some(message)) => {
-                put_message(alloc, place, message, out)?;
-                Ok(true)
-            }
-            Err(FrameError::Fault { kind, at }) => {
-                self.is_over = true;
-                put_fault(alloc, place, kind.name(), at, out)?;
-                Ok(false)
-            }
-            Err(FrameError::Memory) => Err(AllocError),
-        }
-    }
-
-    /// Takes octets, and appends the lines of the messages that they end.
-    fn put_octets(
-        &mut self,
-        alloc: Global,
-        place: &Place<'_>,
-        octets: &[u8],
-        out: &mut Vec<u8>,
-    ) -> Result<(), AllocError> {
-        if self.is_over {
-            return Ok(());
-        }
-        self.framer.feed(octets)?;
-        for _ in 0..u64::MAX {
-            if !self.put_next(alloc, place, out)? {
-                return Ok(());
-            }
-        }
-        Ok(())
-    }
-
-    /// Appends a line if the octets end within a message.
-    fn put_end(
-        &mut self,
-        alloc: Global,
-        place: &Place<'_>,
-        out: &mut Vec<u8>,
-    ) -> Result<(), AllocError> {
-        if self.is_over {
-            return Ok(());
-        }
-        self.is_over = true;
-        match self.framer.finish() {
-            Err(FrameError::Fault { kind, at }) => put_fault(alloc, place, kind.name(), at, out),
-            _ => Ok(()),
-        }
+/// Words and the number of an address, counted from 1.
+fn words_at(text: &'static str, k: usize) -> Words
+    ensures { told_by result ≡ (text.now, Some (count_from k)) }
+{
+    Words {
+        text,
+        number: Some(k.saturating_add(1)),
     }
 }
 
 /// The words of what was noticed of a host.
-fn words_of(notice: Notice) -> &'static str {
+fn words_of(notice: Notice) -> &'static str
+    ensures { result.now ≡ notice_words notice }
+{
     match notice {
         Notice::Nothing => "nothing was noticed",
         Notice::NoPort => "the address has no port",
@@ -201,66 +75,118 @@ fn words_of(notice: Notice) -> &'static str {
     }
 }
 
-/// The words of a report, and the number that belongs to them, if it has one. `None` if nothing is shown of it.
-fn words_of_report(report: Report) -> Option<(&'static str, Option<usize>)> {
+/// The words of a report. `None` if nothing is shown of it.
+fn words_of_report(report: Report) -> Option<Words>
+    ensures { option_map told_by result ≡ report_words report }
+{
     match report {
-        Report::Resolved(count) => Some(("addresses:", Some(count))),
-        Report::Connected(k) => Some(("connected at address", Some(k.saturating_add(1)))),
-        Report::Unreachable(k) => Some(("not reached at address", Some(k.saturating_add(1)))),
-        Report::NoSocket(_) => Some(("no socket was left", None)),
+        Report::Resolved(count) => Some(Words {
+            text: "addresses:",
+            number: Some(count),
+        }),
+        Report::Connected(k) => Some(words_at("connected at address", k)),
+        Report::Unreachable(k) => Some(words_at("not reached at address", k)),
+        Report::NoSocket(_) => Some(words("no socket was left")),
         Report::Taken => None,
-        Report::End => Some(("no more comes", None)),
-        Report::Unreadable => Some(("cannot be read", None)),
-        Report::Unwritable => Some(("cannot be written", None)),
+        Report::End => Some(words("no more comes")),
+        Report::Unreadable => Some(words("cannot be read")),
+        Report::Unwritable => Some(words("cannot be written")),
     }
 }
 
-/// The words of a task, and the number that belongs to them. `None` if nothing is shown of it.
-fn words_of_task(task: Task) -> Option<(&'static str, Option<usize>)> {
+/// The words of a task. `None` if nothing is shown of it.
+fn words_of_task(task: Task) -> Option<Words>
+    ensures { option_map told_by result ≡ task_words task }
+{
     match task {
-        Task::Connect(k) => Some(("connecting to address", Some(k.saturating_add(1)))),
-        Task::Leave(k) => Some(("left address", Some(k.saturating_add(1)))),
+        Task::Connect(k) => Some(words_at("connecting to address", k)),
+        Task::Leave(k) => Some(words_at("left address", k)),
         Task::Send | Task::Read => None,
     }
 }
 
-/// Appends a line of words, and a number, if there is one.
-fn put_words(
-    alloc: Global,
-    place: &Place<'_>,
-    words: (&'static str, Option<usize>),
-    out: &mut Vec<u8>,
-) -> Result<(), AllocError> {
-    put_place(alloc, place, out)?;
-    let (text, number) = words;
-    out.extend_from_slice(text.as_bytes())?;
-    if let Some(number) = number {
-        out.extend_from_slice(b" ")?;
-        let digits = number.to_string(alloc)?;
-        out.extend_from_slice(digits.as_bytes())?;
-    }
-    out.extend_from_slice(b"\n")
-}
-
-/// Appends a line of words, if there are any.
-fn put_words_if(
-    alloc: Global,
-    place: &Place<'_>,
-    words: Option<(&'static str, Option<usize>)>,
-    out: &mut Vec<u8>,
-) -> Result<(), AllocError> {
-    match words {
-        Some(words) => put_words(alloc, place, words, out),
-        None => Ok(()),
-    }
-}
-
 /// Whether no octets come any more after a report.
-fn is_last(report: Report) -> bool {
+fn is_last(report: Report) -> bool
+    ensures { result ≡ is_last report }
+{
     matches!(report, Report::End | Report::Unreadable)
 }
 
 impl Talk {
+    ghost use Rattle.std.specs.Prelude.{◌≡◌, ◌++◌, List, ℕ, OnOk};
+    ghost use Rattle.zmeta_trace.specs.Dialogue.{place_from, place_to, OctetsText, is_last, left_after, end_text_if};
+    ghost use Rattle.zmeta_trace.specs.Entries.{AfterTalk};
+
+    /// Appends the line of the end of what was received, if this report was the last.
+    fn put_end_if(
+        &mut self,
+        alloc: Global,
+        at: u64,
+        name: &[u8],
+        report: Report,
+        out: &mut Vec<u8>,
+    ) -> Result<(), AllocError>
+        ensures line { OnOk result (out.new.items
+            ≡ out.old.items ++ end_text_if (is_last report) (place_from at name.now) self.old.received) }
+        ensures received { OnOk result (self.new.received ≡ left_after (is_last report) self.old.received) }
+        ensures sent { OnOk result (self.new.sent ≡ self.old.sent) }
+    {
+        if !is_last(report) {
+            return Ok(());
+        }
+        let from = Place {
+            at,
+            name,
+            mark: " <",
+        };
+        self.received.put_end(alloc, &from, out)
+    }
+
+    /// Appends the lines of octets that were received.
+    fn put_received(
+        &mut self,
+        alloc: Global,
+        at: u64,
+        name: &[u8],
+        octets: &Bytes,
+        out: &mut Vec<u8>,
+    ) -> Result<(), AllocError>
+        ensures received { OnOk result ((text : List ℕ)
+            × OctetsText (place_from at name.now) octets.now self.old.received self.new.received text
+            × (out.new.items ≡ out.old.items ++ text)) }
+        ensures sent { OnOk result (self.new.sent ≡ self.old.sent) }
+    {
+        let from = Place {
+            at,
+            name,
+            mark: " <",
+        };
+        self.received
+            .put_octets(alloc, &from, octets.as_slice(), out)
+    }
+
+    /// Appends the lines of octets that were sent.
+    fn put_sent(
+        &mut self,
+        alloc: Global,
+        at: u64,
+        name: &[u8],
+        octets: &Bytes,
+        out: &mut Vec<u8>,
+    ) -> Result<(), AllocError>
+        ensures sent { OnOk result ((text : List ℕ)
+            × OctetsText (place_to at name.now) octets.now self.old.sent self.new.sent text
+            × (out.new.items ≡ out.old.items ++ text)) }
+        ensures received { OnOk result (self.new.received ≡ self.old.received) }
+    {
+        let to = Place {
+            at,
+            name,
+            mark: " >",
+        };
+        self.sent.put_octets(alloc, &to, octets.as_slice(), out)
+    }
+
     /// Appends the lines of what happened.
     fn put(
         &mut self,
@@ -269,41 +195,33 @@ impl Talk {
         name: &[u8],
         what: &Traced,
         out: &mut Vec<u8>,
-    ) -> Result<(), AllocError> {
+    ) -> Result<(), AllocError>
+        ensures { OnOk result (AfterTalk at name.now what.now self.old self.new out.old.items out.new.items) }
+    {
         let place = Place { at, name, mark: "" };
-        let from = Place {
-            at,
-            name,
-            mark: " <",
-        };
-        let to = Place {
-            at,
-            name,
-            mark: " >",
-        };
         match what {
-            Traced::Received { octets, .. } => {
-                self.received
-                    .put_octets(alloc, &from, octets.as_slice(), out)
-            }
-            Traced::Sent { octets, .. } => self.sent.put_octets(alloc, &to, octets.as_slice(), out),
+            Traced::Received { octets, .. } => self.put_received(alloc, at, name, octets, out),
+            Traced::Sent { octets, .. } => self.put_sent(alloc, at, name, octets, out),
             Traced::Reported { report, .. } => {
-                if is_last(*report) {
-                    self.received.put_end(alloc, &from, out)?;
-                }
+                self.put_end_if(alloc, at, name, *report, out)?;
                 put_words_if(alloc, &place, words_of_report(*report), out)
             }
             Traced::Wanted { task, .. } => put_words_if(alloc, &place, words_of_task(*task), out),
-            Traced::Noticed { notice, .. } => {
-                put_words(alloc, &place, (words_of(*notice), None), out)
-            }
+            Traced::Noticed { notice, .. } => put_words(
+                alloc,
+                &place,
+                words(words_of(*notice)),
+                out,
+            ),
             Traced::Began { .. } | Traced::Ticked | Traced::GaveUp => Ok(()),
         }
     }
 }
 
 /// The number of the connection of which an entry speaks.
-fn connection_of(what: &Traced) -> Option<u32> {
+fn connection_of(what: &Traced) -> Option<u32>
+    ensures { result ≡ connection_of what.now }
+{
     match what {
         Traced::Reported { c, .. }
         | Traced::Received { c, .. }
@@ -314,28 +232,50 @@ fn connection_of(what: &Traced) -> Option<u32> {
     }
 }
 
+/// Appends the lines of an entry of a connection that is there.
+fn put_entry_on(
+    alloc: Global,
+    c: usize,
+    entry: &TraceEntry,
+    shown: &Shown<'_>,
+    talks: &mut Vec<Talk>,
+    out: &mut Vec<u8>,
+) -> Result<(), AllocError>
+    requires there { c < length talks.old.items }
+    requires named { length shown.now.names.now ≡ length talks.old.items }
+    requires chosen { length shown.now.chosen.now ≡ length talks.old.items }
+    ensures { OnOk result (AfterEntryOn shown.now.names.now shown.now.chosen.now c entry.now talks.old.items
+        talks.new.items out.old.items out.new.items) }
+{
+    let is_shown = shown.chosen[c];
+    if is_shown {
+        let name = shown.names[c].as_slice();
+        talks[c].put(alloc, entry.at, name, &entry.what, out)?;
+    }
+    Ok(())
+}
+
 /// Appends the lines of an entry. Returns whether its connection is there, if it speaks of one.
 fn put_entry(
     alloc: Global,
     entry: &TraceEntry,
     shown: &Shown<'_>,
-    talks: &mut [Talk],
+    talks: &mut Vec<Talk>,
     out: &mut Vec<u8>,
-) -> Result<bool, AllocError> {
+) -> Result<bool, AllocError>
+    requires named { length shown.now.names.now ≡ length talks.old.items }
+    requires chosen { length shown.now.chosen.now ≡ length talks.old.items }
+    ensures { IfOk result (PutEntryResult shown.now.names.now shown.now.chosen.now entry.now talks.old.items
+        talks.new.items out.old.items out.new.items) }
+{
     let Some(c) = connection_of(&entry.what) else {
         return Ok(true);
     };
     let c = c as usize;
-    let (Some(name), Some(chosen), Some(talk)) = (
-        shown.names.get(c),
-        shown.chosen.get(c),
-        talks.get_mut(c),
-    ) else {
+    if c >= talks.len() {
         return Ok(false);
-    };
-    if *chosen {
-        talk.put(alloc, entry.at, name.as_slice(), &entry.what, out)?;
     }
+    put_entry_on(alloc, c, entry, shown, talks, out)?;
     Ok(true)
 }
 
@@ -345,15 +285,19 @@ fn put_entry(
 /// says so; behind the first fault no more octets of that way are shown.
 ///
 /// `Refused` gives the first entry, from 1, that speaks of a connection that is not there.
+#[tactic(auto, using(crate::proofs::Talking::told_none, crate::proofs::Talking::told_all))]
 pub fn print_dialogue(
     alloc: Global,
     entries: &[TraceEntry],
     shown: &Shown<'_>,
     out: &mut Vec<u8>,
-) -> Result<(), TraceError> {
+) -> Result<(), TraceError>
+    requires { length shown.now.chosen.now ≡ length shown.now.names.now }
+    ensures { DialogueResult shown.now.names.now shown.now.chosen.now entries.now out.old.items out.new.items result }
+{
     let mut talks = new_talks(alloc, shown.names.len())?;
     for (index, entry) in entries.iter().enumerate() {
-        if !put_entry(alloc, entry, shown, talks.as_mut_slice(), out)? {
+        if !put_entry(alloc, entry, shown, &mut talks, out)? {
             return Err(TraceError::Refused {
                 line: index as u64 + 1,
             });

@@ -6,7 +6,9 @@ mod given;
 mod head;
 pub mod laws;
 mod parts;
+mod place;
 mod replaying;
+mod way;
 
 pub use dialogue::{Shown, print_dialogue};
 pub use given::given_entries;

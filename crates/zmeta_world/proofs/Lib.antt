@@ -14,3 +14,4 @@ pub mod InMemoryTargets
 pub mod NetworkRuns
 pub mod FitLaw
 pub mod Searching
+pub mod OnePlan

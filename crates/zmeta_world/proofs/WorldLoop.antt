@@ -4,20 +4,20 @@ use Rattle.std.specs.List.{slice_split}
 use Rattle.std.specs.Option.{IfSome, option_map}
 use Rattle.zmeta_world.specs.World.{pieces}
 use Rattle.zmeta_world.specs.WorldLines.{lines_of}
-use Rattle.zmeta_world.specs.WorldReading.{IsReading, IsSoundReader, ReadLineResult, IsFaultOf, octets_left, world_of}
+use Rattle.zmeta_world.specs.WorldReading.{IsReading, HasItsNames, ReadLineResult, IsFaultOf, octets_left, world_of}
 use Rattle.zmeta_world.specs.Worlds.{AreWorld, none, more, AfterLineText, empty}
 use Rattle.zmeta_world.specs.declared.world.WorldError.{WorldError}
 use Rattle.zmeta_world.specs.declared.world.WorldError.TheVariants as errors
 use Rattle.zmeta_world.specs.declared.world.reader.Reader.{Reader}
 use Rattle.zmeta_world.proofs.WorldBounds.{few_questions}
 
-pub first_reading : (file : List ℕ) (r : Reader) → IsSoundReader r → world_of r ≡ empty → IsReading file 0 (Some file) r
+pub first_reading : (file : List ℕ) (r : Reader) → HasItsNames r → world_of r ≡ empty → IsReading file 0 (Some file) r
 first_reading file r s e = record {
   front = [];
   cut = refl;
   place = refl;
   world = subst (AreWorld []) (sym e) none;
-  sound = s;
+  names = s;
   within = omega arith;
 }
 
@@ -38,7 +38,7 @@ next_reading file texts text number after r q i f s m = record {
   cut = first_cut file texts text i.front after i.cut f ∙ sym (append_assoc i.front (text ∷ []) (pieces 10 after));
   place = ap (λ z. z + 1) i.place ∙ sym (length-append i.front (text ∷ []));
   world = more i.world (subst (λ z. AfterLineText (z + 1) text (world_of r) (world_of q)) i.place m.1);
-  sound = m.0;
+  names = m.0;
   within = shorter number (length file + 1) texts after i.within s;
 }
 

@@ -8,3 +8,4 @@ pub mod Finding
 pub mod InMemoryRuns
 pub mod NetworkRuns
 pub mod Search
+pub mod Plans

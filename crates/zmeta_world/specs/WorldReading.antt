@@ -29,26 +29,26 @@ world_of r = record {
 }
 
 -- the reader's sets of names are the names of its targets, hosts and questions
-pub record IsSoundReader (r : Reader) : Type 0 where
+pub record HasItsNames (r : Reader) : Type 0 where
   pub targets : r.target_names.keys ≡ target_names (list_of r.targets)
   pub hosts : r.host_names.keys ≡ host_names r.hosts.items
   pub asked : r.asked_names.keys ≡ asked_names r.questions.items
 
 -- the reader has the expected world; or the line is refused if there is none
 abbrev pub AddResult : Option World → Reader → Result Unit LineFault → Type 0
-AddResult due r (Ok _) = IsSoundReader r × (due ≡ Some (world_of r))
+AddResult due r (Ok _) = HasItsNames r × (due ≡ Some (world_of r))
 AddResult due r (Err faults.Refused) = due ≡ None
 AddResult due r (Err faults.Memory) = Unit {0}
 
 -- the line makes the reader's world of the world before; or it makes none, and is refused
 abbrev pub AddLineResult : ℕ → Line → World → Reader → Result Unit LineFault → Type 0
-AddLineResult number line w r (Ok _) = IsSoundReader r × AfterLine number line w (world_of r)
+AddLineResult number line w r (Ok _) = HasItsNames r × AfterLine number line w (world_of r)
 AddLineResult number line w r (Err faults.Refused) = (v : World) → AfterLine number line w v → ⊥
 AddLineResult number line w r (Err faults.Memory) = Unit {0}
 
 -- the line with this text makes the reader's world of the world before; or it makes none, and is refused
 abbrev pub ReadResult : ℕ → List ℕ → World → Reader → Result Unit LineFault → Type 0
-ReadResult number text w r (Ok _) = IsSoundReader r × AfterLineText number text w (world_of r)
+ReadResult number text w r (Ok _) = HasItsNames r × AfterLineText number text w (world_of r)
 ReadResult number text w r (Err faults.Refused) = (v : World) → AfterLineText number text w v → ⊥
 ReadResult number text w r (Err faults.Memory) = Unit {0}
 
@@ -91,12 +91,12 @@ pub record IsReading (file : List ℕ) (number : ℕ) (rest : Option (List ℕ))
   pub cut : lines_of file ≡ front ++ pieces 10 rest
   pub place : number ≡ length front
   pub world : AreWorld front (world_of r)
-  pub sound : IsSoundReader r
+  pub names : HasItsNames r
   pub within : number + octets_left rest ≤ length file + 1
 
 -- line `number` makes the reader's world of the world before; or it makes none, and is the line refused
 abbrev pub ReadLineResult : ℕ → List ℕ → World → Reader → Result Unit WorldError → Type 0
-ReadLineResult number text w r (Ok _) = IsSoundReader r × AfterLineText number text w (world_of r)
+ReadLineResult number text w r (Ok _) = HasItsNames r × AfterLineText number text w (world_of r)
 ReadLineResult number text w r (Err (errors.Refused line)) = (line ≡ number)
     × ((v : World) → AfterLineText number text w v → ⊥)
 ReadLineResult number text w r (Err errors.Memory) = Unit {0}

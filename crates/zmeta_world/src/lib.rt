@@ -2,6 +2,7 @@
 #![tactic(auto)]
 
 pub mod in_memory;
+pub mod laws;
 pub mod network;
 mod parts;
 pub mod search;

@@ -2,7 +2,7 @@
 
 ghost use Rattle.std.specs.Prelude.{◌≡◌, ◌<◌, ◌^◌, length, IfOk, IfErr};
 ghost use Rattle.zmeta_world.specs.declared.world.WorldError.TheVariants.{Memory};
-ghost use Rattle.zmeta_world.specs.WorldReading.{IsSoundReader, ReadLineResult, IsFaultOf, world_of};
+ghost use Rattle.zmeta_world.specs.WorldReading.{HasItsNames, ReadLineResult, IsFaultOf, world_of};
 ghost use Rattle.zmeta_world.specs.Worlds.{IsWorld};
 ghost use Rattle.zmeta_world.specs.InMemoryRuns.{IsFit};
 
@@ -104,7 +104,7 @@ impl From<AllocError> for WorldError {
 
 /// Reads line `number`. `Refused` gives that number.
 fn read_line(reader: &mut Reader, number: u64, text: &[u8]) -> Result<(), WorldError>
-    requires sound { IsSoundReader reader.old }
+    requires names { HasItsNames reader.old }
     requires few { length reader.old.questions.items < 2 ^ 32 }
     ensures { ReadLineResult number text.now (world_of reader.old) reader.new result }
 {

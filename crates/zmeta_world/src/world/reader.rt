@@ -3,7 +3,7 @@ ghost use Rattle.std.specs.Prelude.{◌≡◌, ◌<◌, ◌^◌, ◌++◌, ◌�
 ghost use Rattle.zmeta_world.specs.declared.world.line.Line.TheVariants as lines;
 ghost use Rattle.zmeta_world.specs.WorldParts.{list_of};
 ghost use Rattle.zmeta_world.specs.Worlds.{empty, is_among, asked_names, end_of, is_defined, put_target, put_host, change_target, add_database, add_content, in_database, in_target, asked_question, move_of, put_move, IsQueryOf, AfterLine};
-ghost use Rattle.zmeta_world.specs.WorldReading.{IsSoundReader, world_of, AddResult, AddLineResult, ReadResult};
+ghost use Rattle.zmeta_world.specs.WorldReading.{HasItsNames, world_of, AddResult, AddLineResult, ReadResult};
 
 use crate::world::fault::LineFault;
 use crate::world::line::{AskLine, Content, Line, Way};
@@ -82,7 +82,7 @@ fn move_of(way: Way, c: u32, k: u32) -> Move
 impl Reader {
     /// Returns a reader that has read no line. It allocates nothing.
     pub(crate) fn new(alloc: Global) -> Reader
-        ensures sound { IsSoundReader result }
+        ensures names { HasItsNames result }
         ensures world { world_of result ≡ empty }
     {
         Reader {
@@ -115,7 +115,7 @@ impl Reader {
 
     /// Returns whether a target or a host has this name.
     fn is_defined(&self, name: &Bytes) -> bool
-        requires { IsSoundReader self.now }
+        requires { HasItsNames self.now }
         ensures { result ≡ is_defined name.now (list_of self.now.targets) self.now.hosts.items }
     {
         self.target_names.contains(name) || self.host_names.contains(name)
@@ -123,7 +123,7 @@ impl Reader {
 
     /// Returns the target or host that has this name.
     fn end_of(&self, name: &Bytes) -> Option<End>
-        requires { IsSoundReader self.now }
+        requires { HasItsNames self.now }
         ensures { result ≡ end_of name.now (list_of self.now.targets) self.now.hosts.items }
     {
         match self.target_names.get_index_of(name) {
@@ -136,7 +136,7 @@ impl Reader {
     }
 
     fn add_target(&mut self, name: Bytes, settings: TargetSettings) -> Result<(), LineFault>
-        requires { IsSoundReader self.old }
+        requires { HasItsNames self.old }
         ensures { AddResult (put_target name settings (world_of self.old)) self.new result }
     {
         if self.is_defined(&name) {
@@ -149,7 +149,7 @@ impl Reader {
     }
 
     fn add_host(&mut self, name: Bytes, address: Bytes) -> Result<(), LineFault>
-        requires { IsSoundReader self.old }
+        requires { HasItsNames self.old }
         ensures { AddResult (put_host name address (world_of self.old)) self.new result }
     {
         if self.is_defined(&name) {
@@ -161,7 +161,7 @@ impl Reader {
     }
 
     fn add_database(&mut self, name: Bytes) -> Result<(), LineFault>
-        requires { IsSoundReader self.old }
+        requires { HasItsNames self.old }
         ensures { AddResult (change_target (add_database name) (world_of self.old)) self.new result }
     {
         let targets = with_target_database(self.alloc, self.targets.take(), name)?;
@@ -170,7 +170,7 @@ impl Reader {
     }
 
     fn add_content(&mut self, content: Content) -> Result<(), LineFault>
-        requires { IsSoundReader self.old }
+        requires { HasItsNames self.old }
         ensures { AddResult (change_target (in_target (in_database (add_content content))) (world_of self.old))
             self.new result }
     {
@@ -180,9 +180,9 @@ impl Reader {
     }
 
     fn push_question(&mut self, asked_question: AskedQuestion) -> Result<(), AllocError>
-        requires sound { IsSoundReader self.old }
+        requires names { HasItsNames self.old }
         requires new { is_among asked_question.name (asked_names self.old.questions.items) ≡ false }
-        ensures sound { OnOk result (IsSoundReader self.new) }
+        ensures names { OnOk result (HasItsNames self.new) }
         ensures world { OnOk result (world_of self.new
             ≡ record (world_of self.old) { questions = self.old.questions.items ++ asked_question ∷ [] }) }
     {
@@ -201,19 +201,19 @@ impl Reader {
         query: Query,
         end: End,
     ) -> Result<(), AllocError>
-        requires sound { IsSoundReader self.old }
+        requires names { HasItsNames self.old }
         requires new { is_among line.name (asked_names self.old.questions.items) ≡ false }
         requires defined { end_of line.name (list_of self.old.targets) self.old.hosts.items ≡ Some end }
         requires asked { IsQueryOf line.text query }
         ensures { OnOk result
-            (IsSoundReader self.new × AfterLine number (lines.Ask line) (world_of self.old) (world_of self.new)) }
+            (HasItsNames self.new × AfterLine number (lines.Ask line) (world_of self.old) (world_of self.new)) }
     {
         let asked_question = asked_question(self.alloc, number, line, query, end)?;
         self.push_question(asked_question)
     }
 
     fn add_end(&mut self, number: u64, line: AskLine, end: End) -> Result<(), LineFault>
-        requires sound { IsSoundReader self.old }
+        requires names { HasItsNames self.old }
         requires new { is_among line.name (asked_names self.old.questions.items) ≡ false }
         requires defined { end_of line.name (list_of self.old.targets) self.old.hosts.items ≡ Some end }
         ensures { AddLineResult number (lines.Ask line) (world_of self.old) self.new result }
@@ -225,7 +225,7 @@ impl Reader {
     }
 
     fn add_question(&mut self, number: u64, line: AskLine) -> Result<(), LineFault>
-        requires { IsSoundReader self.old }
+        requires { HasItsNames self.old }
         ensures { AddLineResult number (lines.Ask line) (world_of self.old) self.new result }
     {
         if self.asked_names.contains(&line.name) {
@@ -238,7 +238,7 @@ impl Reader {
     }
 
     fn add_move(&mut self, way: Way, name: Bytes, k: u32) -> Result<(), LineFault>
-        requires sound { IsSoundReader self.old }
+        requires names { HasItsNames self.old }
         requires few { length self.old.questions.items < 2 ^ 32 }
         ensures { AddResult (put_move way name k (world_of self.old)) self.new result }
     {
@@ -254,7 +254,7 @@ impl Reader {
 
     /// Adds the contents of line `number`.
     fn add_line(&mut self, number: u64, line: Line) -> Result<(), LineFault>
-        requires sound { IsSoundReader self.old }
+        requires names { HasItsNames self.old }
         requires few { length self.old.questions.items < 2 ^ 32 }
         ensures { AddLineResult number line (world_of self.old) self.new result }
     {
@@ -282,7 +282,7 @@ impl Reader {
     /// `Refused` if the text is no line of a world file, or cannot follow the lines before it. After an error the
     /// reader is of no further use.
     pub(crate) fn read(&mut self, number: u64, text: &[u8]) -> Result<(), LineFault>
-        requires sound { IsSoundReader self.old }
+        requires names { HasItsNames self.old }
         requires few { length self.old.questions.items < 2 ^ 32 }
         ensures { ReadResult number text.now (world_of self.old) self.new result }
     {

@@ -23,7 +23,7 @@ loop-rest-preserved c =
     (rw c.in-Some.is at c.loop-rest.invariant) c.first_piece.ensures.pieces (less (λ r. r.now) (length c.in-Some.texts.now) c.first_piece.result.1 c.first_piece.ensures.shorter) c.in_ok-read_line.ensures
 
 pub loop-rest-init : goal.loop-rest-init
-loop-rest-init c = first_reading c.args.file.now c.new-reader.result c.new-reader.ensures.sound c.new-reader.ensures.world
+loop-rest-init c = first_reading c.args.file.now c.new-reader.result c.new-reader.ensures.names c.new-reader.ensures.world
 
 pub returns-clause-fit : goal.returns-clause-fit
 returns-clause-fit c =
