@@ -224,8 +224,17 @@ class Trials(Asker):
         return faults_of_answer(await self.run(hosts, (), at_once, files), hosts)
 
     async def faults_of_load(self, load, at_once):
+        """What is not as it should be of many connections to one host. It is tried again, as a case is. No other run is
+        beside it."""
+        found, left = await self.loaded(load, at_once), AGAIN
+        while found and left and self.again < ALL_AGAIN:
+            left, self.again = left - 1, self.again + 1
+            found = await self.loaded(load, at_once)
+        return found
+
+    async def loaded(self, load, at_once):
         """What is not as it should be of many connections to one host, which answers each request after a pause, and of
-        the time of the processor that they take. No other run is beside it."""
+        the time of the processor that they take."""
         give = partial(one_by_one, pause=load.pause)
         host = Host("x", [f"record {it}".ljust(600, ".") for it in range(load.records)], None, "answered", give)
         await host.open()
