@@ -13,7 +13,7 @@ mod tables;
 
 pub use fact::{Fact, Known, Names};
 pub use knowledge::Knowledge;
-pub use list::print_list;
+pub use list::{print_list, put_name, put_natural};
 pub use saved::loading::{LoadError, load};
 pub use saved::saving::{SaveError, save};
 pub use tables::join::Join;

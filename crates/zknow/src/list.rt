@@ -25,16 +25,22 @@ use zapdu::{DiagRec, Record, print_diag, print_record, quote};
 use zber::Mode;
 use zber::text::put_number;
 
-/// Appends a number in decimal.
-fn put_natural(alloc: Global, number: u32, out: &mut Vec<u8>) -> Result<(), AllocError>
+/// Appends a number in decimal. Returns `AllocError` if no memory is found.
+pub fn put_natural(alloc: Global, number: u32, out: &mut Vec<u8>) -> Result<(), AllocError>
     ensures { OnOk result (out.new.items ≡ out.old.items ++ decimal number) }
 {
     let text = number.to_string(alloc)?;
     out.extend_from_slice(text.as_bytes())
 }
 
-/// Appends the quoted name of a target, or # and its number if it has no name.
-fn put_name(alloc: Global, names: &Names, target: u32, out: &mut Vec<u8>) -> Result<(), AllocError>
+/// Appends the quoted name of a target, or # and its number if it has no name. Returns `AllocError` if no memory is found;
+/// then some of the text may be appended.
+pub fn put_name(
+    alloc: Global,
+    names: &Names,
+    target: u32,
+    out: &mut Vec<u8>,
+) -> Result<(), AllocError>
     ensures { OnOk result (out.new.items ≡ out.old.items ++ target_text names.now target) }
 {
     match names.as_slice().get(target as usize) {

@@ -1,15 +1,14 @@
 //! The list of changes.
 ghost use Rattle.std.specs.Prelude.{◌≡◌, ◌++◌, OnOk, OnErr};
-ghost use Rattle.std.specs.Fmt.{decimal};
 ghost use Rattle.std.specs.List.{flat_map};
-ghost use Rattle.zknow.specs.List.Listing.{target_text, is_hex};
+ghost use Rattle.zknow.specs.List.Listing.{is_hex};
 ghost use Rattle.zknow_changes.specs.Lists.{kind_name, place_text, names_for, change_text, change_list};
 
 use crate::between::{Change, ChangeKind};
 use std::alloc::{AllocError, Global};
-use zapdu::{print_record, quote};
+use zapdu::print_record;
 use zber::text::put_number;
-use zknow::{Mode, Names, RowKey};
+use zknow::{Mode, Names, RowKey, put_name, put_natural};
 
 impl ChangeKind {
     /// Returns the word for it: `new`, `changed` or `gone`.
@@ -21,27 +20,6 @@ impl ChangeKind {
             ChangeKind::Changed => "changed",
             ChangeKind::Gone => "gone",
         }
-    }
-}
-
-/// Appends a number in decimal.
-fn put_natural(alloc: Global, number: u32, out: &mut Vec<u8>) -> Result<(), AllocError>
-    ensures { OnOk result (out.new.items ≡ out.old.items ++ decimal number) }
-{
-    let text = number.to_string(alloc)?;
-    out.extend_from_slice(text.as_bytes())
-}
-
-/// Appends the quoted name of a target, or # and its number if it has no name.
-fn put_name(alloc: Global, names: &Names, target: u32, out: &mut Vec<u8>) -> Result<(), AllocError>
-    ensures { OnOk result (out.new.items ≡ out.old.items ++ target_text names.now target) }
-{
-    match names.as_slice().get(target as usize) {
-        None => {
-            out.push(b'#')?;
-            put_natural(alloc, target, out)
-        }
-        Some(name) => quote(alloc, name.as_slice(), out),
     }
 }
 

@@ -10,7 +10,7 @@ use Rattle.zknow_merge.specs.declared.refusal.Refusal.{Refusal}
 use Rattle.zknow_merge.specs.declared.refusal.Refusal.TheVariants as refusals
 use Rattle.zknow_merge.specs.declared.source.Source.{Source}
 use Rattle.zknow_merge.specs.Inputs.{Input, input_at}
-use Rattle.zknow_merge.specs.Sources.{IsElementOption, IsOtherOption, HasReadNames, HasReadOthers, HasReadFacts, IsReadFrom, AreSettled, AreSame, IsFirstOther}
+use Rattle.zknow_merge.specs.Sources.{IsElementOption, IsOtherOption, HasReadNames, HasReadOthers, HasReadFacts, IsReadFrom, AreSettled, AreSame, IsFirstSourceOfOtherNames}
 use Rattle.zknow_merge.specs.Merges.{AreNamed, IsCut, same_names, IsMerge, ArePutNames}
 use Rattle.zknow_merge.proofs.StepTheory.{few_sources}
 use Rattle.zknow_merge.proofs.EndTheory.{begun, same_option, with_source}
@@ -89,7 +89,7 @@ module _ (inputs : List Input) (written : List ℕ) (m : Merge) (was : IsMerge i
 
   -- ---- one has others
 
-  module _ (k : ℕ) (other : IsFirstOther m.sources.items k) (n : Merge) (items : n.sources.items ≡ take (k + 1) m.sources.items) (is : n ≡ record m { sources = n.sources; refusal = Some refusals.NamesDiffer; named = true }) where
+  module _ (k : ℕ) (other : IsFirstSourceOfOtherNames m.sources.items k) (n : Merge) (items : n.sources.items ≡ take (k + 1) m.sources.items) (is : n ≡ record m { sources = n.sources; refusal = Some refusals.NamesDiffer; named = true }) where
     some_source : 0 < length m.sources.items
     some_source = omega (arith, other.among)
 

@@ -10,7 +10,7 @@ use Rattle.zknow.specs.Tables.DistinctLaws.{less_itself}
 use Rattle.zknow_merge.specs.declared.head.Head.{Head}
 use Rattle.zknow_merge.specs.declared.source.Source.{Source}
 use Rattle.zknow_merge.specs.Heads.{IsSavable}
-use Rattle.zknow_merge.specs.Sources.{IsHeadOption, HasHead, IsLeast, IsLeastAt, AreNoneWaiting, IsWanting, IsWantingAt, HaveSameNames, HaveOtherNames, AreSame, IsFirstOther}
+use Rattle.zknow_merge.specs.Sources.{IsHeadOption, HasHead, IsLeast, IsLeastAt, AreNoneWaiting, IsWanting, IsWantingAt, HaveSameNames, HaveOtherNames, AreSame, IsFirstSourceOfOtherNames}
 use Rattle.zknow_merge.proofs.HeadTheory.{head_order, at_most}
 
 pub savable_head : (o : Option Head) (f : Fact) → IsHeadOption o f → IsSavable f
@@ -110,7 +110,7 @@ module _ (sources : List Source) (k : ℕ) (lt : k < length sources) (s : Source
         (subst (λ (t : Source). HaveSameNames t (get_or sources k e)) (sym (first_at d)) (subst (HaveSameNames first) (sym (item_at e)) here)))
         (cases_lt j k)
 
-    pub other_here : AreSame sources k → HaveOtherNames first s → IsFirstOther sources k
+    pub other_here : AreSame sources k → HaveOtherNames first s → IsFirstSourceOfOtherNames sources k
     other_here before here = record {
       among = lt;
       before = before;

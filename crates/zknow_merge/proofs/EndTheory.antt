@@ -20,7 +20,7 @@ use Rattle.zknow_merge.specs.declared.source.Source.{Source}
 use Rattle.zknow_merge.specs.Inputs.{Input, no_input, input_at, octets_of, AreWhole}
 use Rattle.zknow_merge.specs.Joins.{HasNames, IsFactIn, IsJoin}
 use Rattle.zknow_merge.specs.Sources.{IsElementOption, IsOtherOption, IsDone, IsWanting, HasReadNames, HasReadOthers, HasReadFacts, IsReadFrom, AreSettled, AreNoneWaiting}
-use Rattle.zknow_merge.specs.Merges.{IsCut, same_names, IsMerge, IsStep, AreSound, IsFirstFault, AreFirstOthers}
+use Rattle.zknow_merge.specs.Merges.{IsCut, same_names, IsMerge, IsStep, AreSound, IsFirstFaultyInput, IsFirstInputOfOtherNames}
 use Rattle.zknow_merge.specs.Refusals.{step_of}
 
 -- ---- a source that is done
@@ -126,14 +126,14 @@ module _ (inputs : List Input) (written : List ℕ) (m : Merge) (was : IsMerge i
       let d = with_source m.sources.items some in
       ((file_at 0 d some).read.names, sound_at d some (suc n) alike few)
 
-  pub first_fault : (e : LoadError) → m.refusal ≡ Some (refusals.Fault e) → IsFirstFault inputs (length m.sources.items) e
+  pub first_fault : (e : LoadError) → m.refusal ≡ Some (refusals.Fault e) → IsFirstFaultyInput inputs (length m.sources.items) e
   first_fault e is =
       let cut = subst (λ (r : Option Refusal). IsCut r inputs was.names m.sources.items) is was.cut in
       let alike : same_names m.refusal (length m.sources.items) ≡ length m.sources.items = ap (λ (r : Option Refusal). same_names r (length m.sources.items)) is in
       let front = sound_front (length m.sources.items) (omega (arith, alike)) (omega arith) in
       record { among = cut.few; names = front.0; before = front.1; is = cut.is }
 
-  pub first_others : m.refusal ≡ Some refusals.NamesDiffer → AreFirstOthers inputs (length m.sources.items - 1)
+  pub first_others : m.refusal ≡ Some refusals.NamesDiffer → IsFirstInputOfOtherNames inputs (length m.sources.items - 1)
   first_others is =
       let cut = subst (λ (r : Option Refusal). IsCut r inputs was.names m.sources.items) is was.cut in
       let alike : same_names m.refusal (length m.sources.items) ≡ length m.sources.items - 1 = ap (λ (r : Option Refusal). same_names r (length m.sources.items)) is in

@@ -7,8 +7,8 @@ use Rattle.zknow_merge.specs.declared.step.Step.{Step}
 use Rattle.zknow_merge.specs.declared.step.Step.TheVariants.{Need, Again, Refused, NamesDiffer, Done}
 use Rattle.zknow_merge.specs.Inputs.{Input, IsFileOf, AreWhole, fed, at_end, input_at, octets_of, changed_at, fresh}
 use Rattle.zknow_merge.specs.Joins.{HasNames, IsJoin}
-use Rattle.zknow_merge.specs.Merges.{IsStep, IsFirstFault, AreFirstOthers, AreSound}
-use Rattle.zknow_merge.specs.Files.{file_at, AreFilesOf, AreSavedBefore, IsFirstAtFault, HasFirstOthers, IsStepOf, FileLaws}
+use Rattle.zknow_merge.specs.Merges.{IsStep, IsFirstFaultyInput, IsFirstInputOfOtherNames, AreSound}
+use Rattle.zknow_merge.specs.Files.{file_at, AreFilesOf, AreSavedBefore, IsFirstFaultyFile, IsFirstFileOfOtherNames, IsStepOf, FileLaws}
 use Rattle.zknow_merge.proofs.SourceTheory.{fed_open, fed_ended}
 use Rattle.zknow_merge.proofs.InputTheory.{fresh_length, fresh_at, changed_there, changed_else, changed_length}
 
@@ -84,7 +84,7 @@ module _ (inputs : List Input) (files : List (List ℕ)) (are : AreFilesOf input
       subst (HasNames names)
       (whole_octets (input_at inputs k) (file_at files k) (are.each k (omega (arith, lt, among))) h.0) h.1
 
-  first_fault : (i : ℕ) (e : LoadError) → IsFirstFault inputs i e → IsFirstAtFault files i e
+  first_fault : (i : ℕ) (e : LoadError) → IsFirstFaultyInput inputs i e → IsFirstFaultyFile files i e
   first_fault i e h =
       let among : i < length files = omega (arith, h.among, are.count) in
       record {
@@ -95,7 +95,7 @@ module _ (inputs : List Input) (files : List (List ℕ)) (are : AreFilesOf input
         some = h.is.some;
       }
 
-  first_others : (i : ℕ) → AreFirstOthers inputs i → HasFirstOthers files i
+  first_others : (i : ℕ) → IsFirstInputOfOtherNames inputs i → IsFirstFileOfOtherNames files i
   first_others i h =
       let among : i < length files = omega (arith, h.among, are.count) in
       record {

@@ -24,7 +24,7 @@ AreSavedBefore names files count = (k : ℕ) → k < count → HasNames names (f
 
 -- file `number` is the first that is refused, with this fault, which is not `Memory`; the files before it are saved
 -- files with one list of names
-pub record IsFirstAtFault (files : List (List ℕ)) (number : ℕ) (fault : LoadError) : Type 0 where
+pub record IsFirstFaultyFile (files : List (List ℕ)) (number : ℕ) (fault : LoadError) : Type 0 where
   pub among : number < length files
   pub names : List (List ℕ)
   pub before : AreSavedBefore names files number
@@ -33,7 +33,7 @@ pub record IsFirstAtFault (files : List (List ℕ)) (number : ℕ) (fault : Load
 
 -- file `number` is the first that is refused: it is a saved file with other names than the files before it, of which
 -- there is at least one
-pub record HasFirstOthers (files : List (List ℕ)) (number : ℕ) : Type 0 where
+pub record IsFirstFileOfOtherNames (files : List (List ℕ)) (number : ℕ) : Type 0 where
   pub among : number < length files
   pub some : 0 < number
   pub names : List (List ℕ)
@@ -46,8 +46,8 @@ pub record HasFirstOthers (files : List (List ℕ)) (number : ℕ) : Type 0 wher
 abbrev pub IsStepOf : List (List ℕ) → List ℕ → Step → Type 0
 IsStepOf files written (Need i) = i < length files
 IsStepOf files written Again = ⊤
-IsStepOf files written (Refused i e) = IsFirstAtFault files i e
-IsStepOf files written (NamesDiffer i) = HasFirstOthers files i
+IsStepOf files written (Refused i e) = IsFirstFaultyFile files i e
+IsStepOf files written (NamesDiffer i) = IsFirstFileOfOtherNames files i
 IsStepOf files written Done = IsJoin files written
 
 pub record FileLaws : Type 0 where

@@ -101,7 +101,7 @@ AreSound inputs names count =
 
 -- input `number` is the first that is refused, with this fault; the inputs before it are at their ends, and are saved
 -- files with one list of names
-pub record IsFirstFault (inputs : List Input) (number : ℕ) (fault : LoadError) : Type 0 where
+pub record IsFirstFaultyInput (inputs : List Input) (number : ℕ) (fault : LoadError) : Type 0 where
   pub among : number < length inputs
   pub names : List (List ℕ)
   pub before : AreSound inputs names number
@@ -109,7 +109,7 @@ pub record IsFirstFault (inputs : List Input) (number : ℕ) (fault : LoadError)
 
 -- input `number` is the first that is refused: it is at its end, and is a saved file with other names than the inputs
 -- before it, of which there is at least one
-pub record AreFirstOthers (inputs : List Input) (number : ℕ) : Type 0 where
+pub record IsFirstInputOfOtherNames (inputs : List Input) (number : ℕ) : Type 0 where
   pub among : number < length inputs
   pub some : 0 < number
   pub names : List (List ℕ)
@@ -129,8 +129,8 @@ pub record IsHandedOut (inputs : List Input) (written before after : List ℕ) (
 abbrev pub IsStep : List Input → List ℕ → Step → Type 0
 IsStep inputs written (Need i) = (i < length inputs) × ((input_at inputs i).ended ≡ false)
 IsStep inputs written Again = ⊤
-IsStep inputs written (Refused i e) = IsFirstFault inputs i e
-IsStep inputs written (NamesDiffer i) = AreFirstOthers inputs i
+IsStep inputs written (Refused i e) = IsFirstFaultyInput inputs i e
+IsStep inputs written (NamesDiffer i) = IsFirstInputOfOtherNames inputs i
 IsStep inputs written Done = AreWhole inputs × IsJoin (map octets_of inputs) written
 
 -- after `next`: it appended octets, and the step means what it says

@@ -166,7 +166,7 @@ AreSame sources count = (k : ℕ) (d e : Source) → k < count → k < length so
     → HaveSameNames (slice_index_or sources 0 d) (slice_index_or sources k e)
 
 -- source `k` is the first that has read other names than source 0
-pub record IsFirstOther (sources : List Source) (k : ℕ) : Type 0 where
+pub record IsFirstSourceOfOtherNames (sources : List Source) (k : ℕ) : Type 0 where
   pub among : k < length sources
   pub before : AreSame sources k
   pub others : (d e : Source) → HaveOtherNames (slice_index_or sources 0 d) (slice_index_or sources k e)

@@ -1,7 +1,7 @@
 //! Which source is next.
 ghost use Rattle.std.specs.Prelude.{◌≡◌, ◌<◌, true, false, length, slice_index_or, ◌+◌, IfSome, IfNone};
 ghost use Rattle.zknow_merge.specs.declared.source.Source.{Source};
-ghost use Rattle.zknow_merge.specs.Sources.{AreSettled, IsWantingAt, HaveSameNames, HaveOtherNames, AreSame, IsFirstOther, AreHeaded, IsLeast, IsLeastAt, IsLeastOf};
+ghost use Rattle.zknow_merge.specs.Sources.{AreSettled, IsWantingAt, HaveSameNames, HaveOtherNames, AreSame, IsFirstSourceOfOtherNames, AreHeaded, IsLeast, IsLeastAt, IsLeastOf};
 
 use crate::head::is_below;
 use crate::source::Source;
@@ -32,7 +32,7 @@ fn have_same_names(mine: &Source, theirs: &Source) -> bool
 
 /// Returns the number of the first source that has read other names than the first of all.
 pub(crate) fn first_other(sources: &[Source]) -> Option<usize>
-    ensures some { IfSome result (IsFirstOther sources.now) }
+    ensures some { IfSome result (IsFirstSourceOfOtherNames sources.now) }
     ensures none { IfNone result (AreSame sources.now (length sources.now)) }
 {
     for (k, source) in sources.iter().enumerate() {

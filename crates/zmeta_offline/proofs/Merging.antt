@@ -12,7 +12,7 @@ use Rattle.zknow.specs.declared.saved.loading.LoadError.TheVariants as loads
 use Rattle.zknow.specs.Saved.Loaded.{IsLoadFault}
 use Rattle.zknow_merge.specs.Inputs.{Input, IsFileOf, input_at, octets_of, changed_at, fed, at_end, fresh, no_input, AreWhole}
 use Rattle.zknow_merge.specs.Joins.{HasNames, IsJoin}
-use Rattle.zknow_merge.specs.Merges.{IsMerge, IsStep, AfterNext, AreSound, IsFirstFault, AreFirstOthers}
+use Rattle.zknow_merge.specs.Merges.{IsMerge, IsStep, AfterNext, AreSound, IsFirstFaultyInput, IsFirstInputOfOtherNames}
 use Rattle.zknow_merge.specs.declared.step.Step.{Step}
 use Rattle.zknow_merge.specs.declared.step.Step.TheVariants.{Need, Refused, NamesDiffer, Done}
 use Rattle.zknow_merge.proofs.InputTheory.{fresh_length, fresh_at}
@@ -85,7 +85,7 @@ module _ (starts now : List InputDevice) (inputs : List Input) (read : AreReadTo
       ((input_at inputs k).octets, file_whole k among (sound k below).0, (sound k below).1)
 
   pub first_refused : (n : ℕ) (e : LoadError) (path : Bor (List ℕ)) (same : length inputs ≡ length starts)
-      → ((d : InputDevice) → path.now ≡ (slice_index_or starts n d).path) → IsFirstFault inputs n e
+      → ((d : InputDevice) → path.now ≡ (slice_index_or starts n d).path) → IsFirstFaultyInput inputs n e
       → IsFirstRefused starts (of_load path e)
   first_refused n e path same at h =
       let lt : n < length starts = subst (λ z. n < z) same h.among in
@@ -105,7 +105,7 @@ module _ (starts now : List InputDevice) (inputs : List Input) (read : AreReadTo
       by s (loads.NotCanonical at) some is h = (is, h)
       by s loads.Memory some is h = absurd (some refl)
 
-  pub has_others : (n : ℕ) (same : length inputs ≡ length starts) → AreFirstOthers inputs n → HasOthers starts
+  pub has_others : (n : ℕ) (same : length inputs ≡ length starts) → IsFirstInputOfOtherNames inputs n → HasOthers starts
   has_others n same h =
       let lt : n < length starts = subst (λ z. n < z) same h.among in
       record {
@@ -281,7 +281,7 @@ module _ (starts now : List InputDevice) (begun held : Option (List ℕ)) (m : M
 
   pub refused_among : (k : ℕ) (e : LoadError) → step ≡ Refused k e → k < length now
   refused_among k e is =
-      let means : IsFirstFault due.merging.inputs k e = subst (IsStep due.merging.inputs due.merging.handed) is due.means in
+      let means : IsFirstFaultyInput due.merging.inputs k e = subst (IsStep due.merging.inputs due.merging.handed) is due.means in
       omega (arith, means.among, due.merging.size, due.merging.same)
 
   -- the first stream that is refused, by the path that its reader has
@@ -289,13 +289,13 @@ module _ (starts now : List InputDevice) (begun held : Option (List ℕ)) (m : M
       → path.now ≡ (slice_index_or now k d).path → IsFirstRefused starts (of_load path e)
   due_refused k e is path d at =
       let mm = due.merging in
-      let means : IsFirstFault mm.inputs k e = subst (IsStep mm.inputs mm.handed) is due.means in
+      let means : IsFirstFaultyInput mm.inputs k e = subst (IsStep mm.inputs mm.handed) is due.means in
       let lt : k < length starts = omega (arith, means.among, mm.size) in
       first_refused starts now mm.inputs mm.read k e path mm.size (λ d2. at ∙ (mm.read k d2 d lt).path) means
 
   pub due_others : (k : ℕ) → step ≡ NamesDiffer k → HasOthers starts
   due_others k is =
-      let means : AreFirstOthers due.merging.inputs k = subst (IsStep due.merging.inputs due.merging.handed) is due.means in
+      let means : IsFirstInputOfOtherNames due.merging.inputs k = subst (IsStep due.merging.inputs due.merging.handed) is due.means in
       has_others starts now due.merging.inputs due.merging.read k due.merging.size means
 
 -- the fault of the first stream that is refused

@@ -31,7 +31,7 @@ use Rattle.zoom_pool.specs.declared.phase.Phase.{Phase}
 use Rattle.zoom_pool.specs.declared.phase.Phase.TheVariants as phases
 use Rattle.zoom_pool.specs.Driving.{plan_of, operation_for, events_of, made_event, got_event, can_search, can_present, IsDueEvent, IsDueCall, DrivenLaws}
 use Rattle.zoom_pool.specs.Steering.{Errand, IsNextCall, IsSteeredCall, is_skip, may_call, skipped_in, complete_in, is_rejected, room_in, IsTried}
-use Rattle.zoom_pool.specs.Drivers.{DriverState, IsDriver, IsAtPhase, AtFresh, AtOpened, AtCounted, AtAsking, AtDone, AtClosed, HasOpening, AllAnswered, IsFreeStart, HaveApartStarts, events_at, opened_events, searched_events, found_events, left_in, SameDriver, IsOffer, IsPrepared, PrepareStep, IsSamePhase, IsSentAgenda, SendStep, NoteSentStep, NoteRefusedStep, RefusedLaw, HasVersion, CanBeSent, HasFound}
+use Rattle.zoom_pool.specs.Drivers.{DriverState, IsDriver, IsAtPhase, AtFresh, AtOpened, AtCounted, AtAsking, AtDone, AtClosed, HasOpening, AllAnswered, IsFreeStart, HaveApartStarts, events_at, opened_events, searched_events, found_events, left_in, SameDriver, IsOffer, IsPrepared, PrepareStep, IsSamePhase, IsSentAgenda, PhaseAfterCall, NoteSentStep, NoteRefusedStep, RefusedLaw, HasVersion, CanBeSent, HasFound}
 use Rattle.zoom_pool.proofs.Phases.{uncallable, any_last, none_due, length_put, apart_put}
 use Rattle.zoom_pool.proofs.Nexts.{room_few, found_some}
 use Rattle.zoom_pool.proofs.Drivings.{sent_known}
@@ -691,7 +691,7 @@ sent_sendable s op set ask = by (early_refusal s (origin.Search op set ask)) (is
     by None false q = refl
 
 -- the origin admitted the call
-pub knows_sent : AgendaLaws → DrivenLaws → NumberLaw → (call : origin.Call) (old new : DriverState) → SendStep call old.phase new.phase
+pub knows_sent : AgendaLaws → DrivenLaws → NumberLaw → (call : origin.Call) (old new : DriverState) → PhaseAfterCall call old.phase new.phase
     → new.errand ≡ old.errand → new.skipped ≡ old.skipped → new.complete ≡ (is_close_call call || old.complete)
     → new.left ≡ left_in new.errand.window new.phase → NoteSentStep call old new
 knows_sent laws driven number origin.Init old new s er sk co l = λ e settings log o q.
@@ -709,7 +709,7 @@ knows_sent laws driven number (origin.Search op set ask) old new s er sk co l = 
     let k = o.knows in let f = o.offered in
     let left : new.left ≡ left_in e.window new.phase = l ∙ ap (λ z. left_in z.window new.phase) (er ∙ k.errand) in
     let was : old.left ≡ 2 = k.left ∙ ap (left_in e.window) f.2 in
-    let to : new.phase ≡ phases.Searching f.0 f.1 = subst (λ z. SendStep (origin.Search op set ask) z new.phase) f.2 s in
+    let to : new.phase ≡ phases.Searching f.0 f.1 = subst (λ z. PhaseAfterCall (origin.Search op set ask) z new.phase) f.2 s in
     let is : new.left ≡ 0 = left ∙ ap (left_in e.window) to in
     let a : AtOpened e settings log f.0 f.1 = subst (IsAtPhase e settings log) f.2 k.at in
     let n : IsNextCall e settings log (origin.Search op set ask) = (subst (λ r. IsSteeredCall e settings log r (origin.Search op set ask)) q o.steers).0 in
@@ -737,7 +737,7 @@ knows_sent laws driven number (origin.Present op set ranges) old new s er sk co 
     let left : new.left ≡ left_in e.window new.phase = l ∙ ap (λ z. left_in z.window new.phase) (er ∙ k.errand) in
     let a : AtAsking e settings log f.0 = subst (IsAtPhase e settings log) f.1 k.at in
     let n : IsNextCall e settings log (origin.Present op set ranges) = f.3 in
-    let sends : IsSentAgenda true f.0 new.phase = subst (λ b. IsSentAgenda b f.0 new.phase) f.2 (subst (λ z. SendStep (origin.Present op set ranges) z new.phase) f.1 s) in
+    let sends : IsSentAgenda true f.0 new.phase = subst (λ b. IsSentAgenda b f.0 new.phase) f.2 (subst (λ z. PhaseAfterCall (origin.Present op set ranges) z new.phase) f.1 s) in
     by e settings log o q f.0 f.1 a n left new.phase refl sends
   where
     by : (e : Errand) (settings : Settings) (log : Log) (o : IsOffer e settings log old (origin.Present op set ranges))

@@ -378,12 +378,12 @@ IsSentAgenda false a new = new ≡ phases.Asking a
 
 -- the phase after a call that the origin admitted: Init and Close set it at any phase, a Search and a Present only
 -- where the driver gives them
-abbrev pub SendStep : origin.Call → Phase → Phase → Type 0
-SendStep origin.Init old new = new ≡ phases.Opening
-SendStep (origin.Search op set ask) (phases.Opened present three) new = new ≡ phases.Searching present three
-SendStep (origin.Present op set ranges) (phases.Asking a) new = IsSentAgenda a.ready a new
-SendStep origin.Close old new = new ≡ phases.Closed
-SendStep _ old new = new ≡ old
+abbrev pub PhaseAfterCall : origin.Call → Phase → Phase → Type 0
+PhaseAfterCall origin.Init old new = new ≡ phases.Opening
+PhaseAfterCall (origin.Search op set ask) (phases.Opened present three) new = new ≡ phases.Searching present three
+PhaseAfterCall (origin.Present op set ranges) (phases.Asking a) new = IsSentAgenda a.ready a new
+PhaseAfterCall origin.Close old new = new ≡ phases.Closed
+PhaseAfterCall _ old new = new ≡ old
 
 -- ---- replies
 

@@ -7,7 +7,7 @@ ghost use Rattle.zorigin.specs.Standings.{Search};
 ghost use Rattle.zorigin.specs.Fitting.{records_in};
 ghost use Rattle.zoom_pool.specs.CallsOf.{call_of};
 ghost use Rattle.zoom_pool.specs.Driving.{counted};
-ghost use Rattle.zoom_pool.specs.Drivers.{room_for, is_fresh_state, NextAskedResult, GiveResult, IsSamePhase, SendStep, opened_phase, counted_phase, TakenStep, AnswerStep, IsRangesCall, IsNotCounted};
+ghost use Rattle.zoom_pool.specs.Drivers.{room_for, is_fresh_state, NextAskedResult, GiveResult, IsSamePhase, PhaseAfterCall, opened_phase, counted_phase, TakenStep, AnswerStep, IsRangesCall, IsNotCounted};
 
 use crate::call::Call;
 use crate::state::State;
@@ -189,7 +189,7 @@ fn send_first(schedule: &mut Schedule)
 
 /// Changes the phase after the origin admitted the call, which was given at the phase. It takes no memory.
 pub(crate) fn send(phase: &mut Phase, call: &Call)
-    ensures { SendStep (call_of call.now) phase.old phase.new }
+    ensures { PhaseAfterCall (call_of call.now) phase.old phase.new }
 {
     match call {
         Call::Init => *phase = Phase::Opening,
