@@ -47,7 +47,7 @@ class Browser:
         self.number, self.rest, self.events, self.session = 0, b"", [], None
         page = next(it for it in self.do("Target.getTargets")["targetInfos"] if it["type"] == "page")
         self.session = self.do("Target.attachToTarget", targetId=page["targetId"], flatten=True)["sessionId"]
-        for part in ("Page", "Runtime", "Network", "Log", "Accessibility"):
+        for part in ("Page", "Runtime", "Network", "Log", "Accessibility", "Performance"):
             self.do(part + ".enable")
 
     def __enter__(self):
@@ -108,6 +108,11 @@ class Browser:
         self.wait("Page.loadEventFired")
         self.value("new Promise(done => requestAnimationFrame(() => requestAnimationFrame(() => done(0))))")
         return time.monotonic() - begun
+
+    def spent(self):
+        """How many seconds of the processor the page's own process has used."""
+        said = self.do("Performance.getMetrics")["metrics"]
+        return next(it["value"] for it in said if it["name"] == "ProcessTime")
 
     def value(self, code):
         """The value of an expression in the page."""

@@ -9,7 +9,7 @@ from saved import BIB1, COUNT, DIAG, FAILED, MARC21, SEEN, SUTRS, diagnostic, of
 ROOT = os.path.dirname(os.path.dirname(os.path.dirname(os.path.abspath(__file__))))
 HEADING = "Novels, 28 November"
 
-ELEMENTS = """html head meta title style body main h1 h2 section div table thead tbody tr th td ul li meter strong
+ELEMENTS = """html head meta title style body main h1 h2 section div table thead tbody tr th td p ul li meter strong
 details summary""".split()
 ATTRIBUTES = "lang charset http-equiv name content class id scope value max role tabindex aria-labelledby".split()
 

@@ -1,7 +1,8 @@
 #!/usr/bin/env python3
 """Reads the pages that `--html` prints by Python's HTML parser, and compares them with the JSON of the same facts: each
 record has its row, with its year, title, author and ISBN, and with its lines of `--fields` behind the title. The rows
-of catalogues add up. A page has no element that runs or loads something, and its policy names its style sheet.
+of catalogues add up, and the rows of 50 positions are a block. A page has no element that runs or loads something,
+and its policy names its style sheet.
 
     ZMETA=PROGRAM python3 tests/program/html_pages.py"""
 
@@ -15,6 +16,8 @@ import subprocess
 import sys
 import tempfile
 
+from saved import COUNT, SEEN, SUTRS, of_facts, record
+
 FILES = os.path.join(os.path.dirname(os.path.abspath(__file__)), "files")
 HEADING = """<script>alert("1")</script> & 'two' \u202e"""
 # what is printed of each of these
@@ -27,9 +30,12 @@ ASKED = (
     ["join", "kinds.saved", "kinds.saved"],
     ["join", "copies.saved", "copies.saved"],
     ["join", "empty", "empty"],
+    ["join", "many.saved", "many.saved"],
 )
+# how many records the last has, each at a position of its own, and how many rows are in each block
+MANY, BLOCKS = 120, [50, 50, 20]
 TAGS = set(
-    "html head meta title style body main h1 h2 section div table thead tbody tr th td ul li meter strong details "
+    "html head meta title style body main h1 h2 section div table thead tbody tr th td p ul li meter strong details "
     "summary".split()
 )
 
@@ -41,7 +47,8 @@ class Page(html.parser.HTMLParser):
     def __init__(self, text):
         super().__init__(convert_charrefs=True)
         self.tags, self.names, self.texts, self.policy = set(), set(), {"h1": "", "title": "", "style": ""}, ""
-        self.records, self.catalogues, self.lines, self.open, self.row = [], [], [], [], None
+        self.records, self.catalogues, self.lines, self.open, self.row, self.whole = [], [], [], [], None, ""
+        self.blocks = []
         self.feed(text)
         self.close()
 
@@ -54,23 +61,34 @@ class Page(html.parser.HTMLParser):
         if tag == "meta":
             return
         self.open.append(tag)
-        if tag == "tr":
+        if tag == "tbody":
+            self.blocks.append(0)
+        elif tag == "tr":
             self.row = []
             if "class" in said:
+                self.blocks[-1] += 1
                 (self.records if said["class"] in ("record", "differs") else self.catalogues).append(self.row)
         elif tag in ("td", "th"):
             self.row.append("")
-        elif tag == "li" and len(self.row) in (4, 7) and self.records:
+        elif tag == "p":
+            self.whole = ""
+        elif tag == "li" and len(self.row) == 7 and self.records:
             self.lines.append("")
 
     def handle_endtag(self, tag):
         if not self.open or self.open.pop() != tag:
             raise ValueError(f"{tag} ends what it does not begin")
+        if tag == "p":
+            if not self.whole.endswith("\n"):
+                raise ValueError(f"no line feed ends {self.whole!r}")
+            self.lines += self.whole[:-1].split("\n")
 
     def handle_data(self, text):
         if self.open and self.open[-1] in self.texts:
             self.texts[self.open[-1]] += text
-        elif "li" in self.open and self.records:
+        elif "p" in self.open:
+            self.whole += text
+        elif "li" in self.open and len(self.row) == 7 and self.records:
             self.lines[-1] += text
         elif "tr" in self.open and "details" not in self.open:
             self.row[-1] += text
@@ -140,12 +158,17 @@ def fault_of(zmeta, room, words):
         return f"the policy is {page.policy}, and the style sheet's sum is {digest}"
     if page.texts["h1"] != page.texts["title"] or page.texts["h1"] != HEADING.replace("\u202e", "\ufffd"):
         return f"the heading is {page.texts['h1']!r}"
+    if "many.saved" in words and page.blocks[1:] != BLOCKS:
+        return f"{MANY} records stand in blocks of {page.blocks[1:]}"
     view = shown(zmeta, room, words, "--fields")[1]
     return fault_of_rows(page, [*records_of(lines)]) or fault_of_catalogues(page) or fault_of_lines(page, view)
 
 
 def faults(zmeta, room):
     """What is not as it should be of the pages."""
+    facts = [(COUNT, 0, 1, MANY), *((SEEN, 0, 1, it, record(SUTRS, b"%d" % it, "books")) for it in range(1, MANY + 1))]
+    with open(os.path.join(room, "many.saved"), "wb") as file:
+        file.write(of_facts(["city library"], facts))
     for words in ASKED:
         fault = fault_of(zmeta, room, words)
         if fault:

@@ -9,13 +9,14 @@ use lib.Utf8.{encode}
 use Rattle.zhtml.specs.declared.attributes.AttributeName.{AttributeName}
 use Rattle.zhtml.specs.declared.attributes.AttributeName.TheVariants.{Role}
 use Rattle.zhtml.specs.declared.elements.Element.{Element}
-use Rattle.zhtml.specs.declared.elements.Element.TheVariants.{Table, Thead, Tbody, Tr, Th, Td, Ul, Li, Strong, Details, Summary}
+use Rattle.zhtml.specs.declared.elements.Element.TheVariants.{Table, Thead, Tbody, Tr, Th, Td, P, Ul, Li, Strong, Details, Summary}
 use Rattle.zhtml.specs.Markup.{element}
 use Rattle.zhtml.specs.Tables.{RowText, class_of}
 use Rattle.zhtml.specs.Texts.{visible}
+use Rattle.zhtml.specs.Trees.{nothing, text_octet}
 use Rattle.zhtml.proofs.TableTheory.{HasText, nothing_has_text, append_has_text, text_has_text, element_has_text, each_has_text, HasCells, element_has_cell, HasRows, append_has_rows, text_has_no_rows, element_has_rows, row_has_row}
-use Rattle.zknow_html.specs.Cells.{only, said, said_with, listed, mark, class_if, summary, hidden, header_of, column, row_header, cell, text_cell, list_cell, compared_cell, compared_text, compared_list, row_of, row, table_start, body_start, table_end, table}
-use Rattle.zknow_html.specs.Rows.{mark_text, hidden_text}
+use Rattle.zknow_html.specs.Cells.{only, said, said_with, listed, mark, class_if, summary, line, hidden, header_of, column, row_header, cell, text_cell, list_cell, compared_cell, compared_text, compared_list, row_of, row, table_start, body_start, block_end, table_end, table}
+use Rattle.zknow_html.specs.Rows.{mark_text, line_text, hidden_text}
 
 -- ---- classes
 
@@ -70,11 +71,21 @@ summary_has_text : (other : Bool) (title : List ℕ) → HasText (summary other 
 unfolding summary
 summary_has_text other title = element_has_text Summary (class_if other) (text_has_text title)
 
+line_feed_has_text : HasText (codes "\n") (codes "\n")
+line_feed_has_text = record { nodes = text_octet 0x0A nothing; made = refl; sheets = tt; same = refl }
+
+line_has_text : (octets : List ℕ) → HasText (line octets) (line_text octets)
+unfolding line
+line_has_text octets = append_has_text (text_has_text octets) line_feed_has_text
+
+lines_have_text : (texts : List (List ℕ)) → HasText (element P [] (flat_map line texts)) (flat_map line_text texts)
+lines_have_text texts = element_has_text P [] (each_has_text line line_text line_has_text texts)
+
 pub hidden_has_text : (other : Bool) (title : List ℕ) (texts : List (List ℕ))
     → HasText (hidden other title texts) (hidden_text title texts)
 hidden_has_text other title texts =
-    if_has_text (eqb (length texts) 0) [] _ [] (visible title ++ flat_map visible texts) nothing_has_text
-    (element_has_text Details [] (append_has_text (summary_has_text other title) (items_have_text texts)))
+    if_has_text (eqb (length texts) 0) [] _ [] (visible title ++ flat_map line_text texts) nothing_has_text
+    (element_has_text Details [] (append_has_text (summary_has_text other title) (lines_have_text texts)))
 
 -- ---- cells
 
@@ -140,10 +151,44 @@ table_parts : (columns rows : List ℕ)
 unfolding table table_start body_start table_end
 table_parts columns rows = simp append_assoc
 
-pub table_has_rows : (columns rows : List ℕ) (texts : List RowText) → HasRows columns [] → HasRows rows texts
+-- a block of rows
+abbrev pub block : List ℕ → List ℕ
+block rows = element Tbody (only Role (codes "rowgroup")) rows
+
+pub block_has_rows : {rows : List ℕ} {texts : List RowText} → HasRows rows texts → HasRows (block rows) texts
+block_has_rows inside = element_has_rows Tbody (only Role (codes "rowgroup")) refl inside
+
+block_parts : (before here rest : List ℕ)
+    → block (before ++ (block_end ++ here ++ rest)) ≡ block before ++ block (here ++ rest)
+unfolding block_end
+block_parts before here rest = simp append_assoc
+
+-- what has its rows behind any rows
+abbrev pub HasOthers : List ℕ → List RowText → Type 0
+HasOthers rest more =
+    (rows : List ℕ) (texts : List RowText) → HasRows rows texts → HasRows (block (rows ++ rest)) (texts ++ more)
+
+in_next_block : (before here rest : List ℕ) (s t more : List RowText) → HasRows before s → HasRows here t
+    → HasOthers rest more → HasRows (block (before ++ (block_end ++ here ++ rest))) (s ++ (t ++ more))
+in_next_block before here rest s t more first one others =
+    rw (block_parts before here rest) (append_has_rows (block_has_rows first) (others here t one))
+
+in_same_block : (before here rest : List ℕ) (s t more : List RowText) → HasRows before s → HasRows here t
+    → HasOthers rest more → HasRows (block (before ++ (here ++ rest))) (s ++ (t ++ more))
+in_same_block before here rest s t more first one others =
+    let joined = others (before ++ here) (s ++ t) (append_has_rows first one) in
+    rw (append_assoc before here rest, append_assoc s t more) at joined
+
+-- rows that follow others have theirs, whether a block begins between them or not
+pub rows_follow : (begins : Bool) (before here rest : List ℕ) (s t more : List RowText) → HasRows before s
+    → HasRows here t → HasOthers rest more
+    → HasRows (block (before ++ (cond begins block_end [] ++ here ++ rest))) (s ++ (t ++ more))
+rows_follow true before here rest s t more first one others = in_next_block before here rest s t more first one others
+rows_follow false before here rest s t more first one others = in_same_block before here rest s t more first one others
+
+pub table_has_rows : (columns rows : List ℕ) (texts : List RowText) → HasRows columns [] → HasRows (block rows) texts
     → HasRows (table columns rows) texts
 table_has_rows columns rows texts heads inside =
     rw (table_parts columns rows) (element_has_rows Table (only Role (codes "table")) refl (append_has_rows
     (element_has_rows Thead (only Role (codes "rowgroup")) refl
-    (element_has_rows Tr (only Role (codes "row")) refl heads))
-    (element_has_rows Tbody (only Role (codes "rowgroup")) refl inside)))
+    (element_has_rows Tr (only Role (codes "row")) refl heads)) inside))

@@ -1,12 +1,12 @@
 -- The tables of the page have the rows that are due.
-use Rattle.std.proofs.Common.{◌≡◌, ℕ, ◌+◌, ℤ, Bool, true, false, cond, List, [], ◌∷◌, ◌++◌, length, map, Option, Some, None}
+use Rattle.std.proofs.Common.{◌≡◌, ℕ, ◌+◌, ℤ, Bool, true, false, cond, List, [], ◌∷◌, ◌++◌, length, map, eqb, Option, Some, None}
 use Rattle.std.specs.Prelude.{pos, int_lt, codes, slice_get}
 use Rattle.std.specs.Fmt.{decimal, signed_decimal}
 use Rattle.std.specs.List.{flat_map}
 use Rattle.zhtml.specs.declared.elements.Element.TheVariants.{Meter}
 use Rattle.zhtml.specs.Tables.{RowText}
 use Rattle.zhtml.specs.Texts.{visible}
-use Rattle.zhtml.proofs.TableTheory.{HasText, nothing_has_text, append_has_text, text_has_text, element_has_text, HasCells, append_has_cells, HasRows, nothing_has_rows, append_has_rows, each_has_rows}
+use Rattle.zhtml.proofs.TableTheory.{HasText, nothing_has_text, append_has_text, text_has_text, element_has_text, HasCells, append_has_cells, HasRows, nothing_has_rows, append_has_rows}
 use Rattle.zknow.specs.declared.fact.Fact.{Fact}
 use Rattle.zknow.specs.declared.tables.keys.RowKey.{RowKey}
 use Rattle.zknow.specs.declared.tables.keys.SetKey.{SetKey}
@@ -20,9 +20,9 @@ use Rattle.zknow_html.specs.declared.differences.Differences.{Differences}
 use Rattle.zknow_html.specs.Catalogues.{found_text, refused_count, missing_text, share_text, meter, share, share_cell, reasons, number_cells, known_row, set_row, empty_cells, stop_row, stop_rows, stops_from, count_columns, catalogue_columns, catalogue_table}
 use Rattle.zknow_html.specs.Descriptions.{description_of}
 use Rattle.zknow_html.specs.Differences.{DescriptionTexts, no_differences, differences}
-use Rattle.zknow_html.specs.Records.{name_cell, title_cell, description_cells, record_row, one_of, differing_rows, described_rows, position_rows, place_columns, field_columns, record_columns, record_table}
+use Rattle.zknow_html.specs.Records.{name_cell, title_cell, description_cells, record_row, one_of, differing_rows, described_rows, position_rows, room_behind, rows_from, place_columns, field_columns, record_columns, record_table}
 use Rattle.zknow_html.specs.Rows.{share_words, number_texts, known_text, set_text, stop_text, stop_texts, stop_texts_from, mark_text, hidden_text, description_texts, record_text, differing_texts, described_texts, position_texts, catalogue_texts}
-use Rattle.zknow_html.proofs.CellTheory.{catalogue_is_visible, stopped_is_visible, record_is_visible, differs_is_visible, mark_has_text, hidden_has_text, cell_has_cell, text_has_cell, list_has_cell, compared_has_cell, compared_text_has_cell, compared_list_has_cell, row_header_has_cell, row_has, column_has_no_rows, table_has_rows}
+use Rattle.zknow_html.proofs.CellTheory.{catalogue_is_visible, stopped_is_visible, record_is_visible, differs_is_visible, mark_has_text, hidden_has_text, cell_has_cell, text_has_cell, list_has_cell, compared_has_cell, compared_text_has_cell, compared_list_has_cell, row_header_has_cell, row_has, column_has_no_rows, block, block_has_rows, rows_follow, table_has_rows}
 
 -- ---- one row each
 
@@ -109,9 +109,9 @@ catalogue_columns_have_no_rows =
 pub catalogues_have_rows : (shown : List (List ℕ)) (stops : List (Option Stop)) (facts : List Fact)
     → HasRows (catalogue_table shown stops facts (sets_of facts)) (catalogue_texts shown stops facts)
 catalogues_have_rows shown stops facts =
-    table_has_rows catalogue_columns _ _ catalogue_columns_have_no_rows (append_has_rows
+    table_has_rows catalogue_columns _ _ catalogue_columns_have_no_rows (block_has_rows (append_has_rows
     (map_has_rows (set_row shown facts) (set_text shown facts) (set_has_row shown facts) (sets_of facts))
-    (stops_have_rows shown 0 stops))
+    (stops_have_rows shown 0 stops)))
 
 -- ---- records
 
@@ -162,6 +162,16 @@ position_has_rows : (shown : List (List ℕ)) (facts : List Fact) (k : RowKey)
 position_has_rows shown facts k =
     described_have_rows shown k (map description_of (records_at k.target k.set k.position facts))
 
+-- a block, and those behind it
+blocks_have_rows : (shown : List (List ℕ)) (facts : List Fact) (rows : List RowKey) (room : ℕ) (before : List ℕ)
+    (texts : List RowText) → HasRows before texts
+    → HasRows (block (before ++ rows_from shown facts room rows)) (texts ++ flat_map (position_texts shown facts) rows)
+blocks_have_rows shown facts [] room before texts first = block_has_rows (append_has_rows first nothing_has_rows)
+blocks_have_rows shown facts (k ∷ rows) room before texts first =
+    rows_follow (eqb room 0) before (position_rows shown facts k) (rows_from shown facts (room_behind room) rows) texts
+    (position_texts shown facts k) (flat_map (position_texts shown facts) rows) first (position_has_rows shown facts k)
+    (blocks_have_rows shown facts rows (room_behind room))
+
 record_columns_have_no_rows : HasRows record_columns []
 unfolding record_columns place_columns field_columns
 record_columns_have_no_rows =
@@ -174,5 +184,4 @@ pub records_table_has_rows : (shown : List (List ℕ)) (facts : List Fact)
     → HasRows (record_table shown facts (rows_of facts)) (flat_map (position_texts shown facts) (rows_of facts))
 records_table_has_rows shown facts =
     table_has_rows record_columns _ _ record_columns_have_no_rows
-    (each_has_rows (position_rows shown facts) (position_texts shown facts) (position_has_rows shown facts)
-    (rows_of facts))
+    (blocks_have_rows shown facts (rows_of facts) 50 [] [] nothing_has_rows)

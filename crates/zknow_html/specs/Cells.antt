@@ -5,7 +5,7 @@ use Rattle.std.specs.List.{flat_map}
 use Rattle.zhtml.specs.declared.attributes.AttributeName.{AttributeName}
 use Rattle.zhtml.specs.declared.attributes.AttributeName.TheVariants.{Class, Role, Scope}
 use Rattle.zhtml.specs.declared.elements.Element.{Element}
-use Rattle.zhtml.specs.declared.elements.Element.TheVariants.{Table, Thead, Tbody, Tr, Th, Td, Ul, Li, Strong, Details, Summary}
+use Rattle.zhtml.specs.declared.elements.Element.TheVariants.{Table, Thead, Tbody, Tr, Th, Td, P, Ul, Li, Strong, Details, Summary}
 use Rattle.zhtml.specs.Markup.{Pair, attribute_of, start_tag, end_tag, element}
 use Rattle.zhtml.specs.Texts.{text}
 
@@ -41,11 +41,15 @@ class_if other = if other then only Class (codes "other") else []
 unfoldable pub summary : Bool → List ℕ → List ℕ
 summary other title = element Summary (class_if other) (text title)
 
--- texts that are seen if a reader opens them, nothing if there is none
+-- a text and the line feed that ends it
+unfoldable pub line : List ℕ → List ℕ
+line octets = text octets ++ codes "\n"
+
+-- lines that are seen if a reader opens them, nothing if there is none
 abbrev pub hidden : Bool → List ℕ → List (List ℕ) → List ℕ
 hidden other title texts =
     if length texts == 0 then []
-    else element Details [] (summary other title ++ element Ul [] (flat_map (said Li) texts))
+    else element Details [] (summary other title ++ element P [] (flat_map line texts))
 
 -- ---- headers (WAI-ARIA, 5.3.2)
 
@@ -106,6 +110,10 @@ table_start =
 -- what stands between these headers and its rows
 unfoldable pub body_start : List ℕ
 body_start = end_tag Tr ++ end_tag Thead ++ start_tag Tbody (only Role (codes "rowgroup"))
+
+-- what stands between two blocks of its rows
+unfoldable pub block_end : List ℕ
+block_end = end_tag Tbody ++ start_tag Tbody (only Role (codes "rowgroup"))
 
 -- what it ends with
 unfoldable pub table_end : List ℕ

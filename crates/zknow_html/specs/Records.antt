@@ -1,5 +1,5 @@
 -- The table of records: position, catalogue, year, title with all fields behind it, author, ISBN, copies.
-use Rattle.std.specs.Prelude.{ℕ, Bool, List, [], ◌∷◌, ◌++◌, codes, length, map}
+use Rattle.std.specs.Prelude.{ℕ, ◌-◌, ◌==◌, Bool, if◌then◌else◌, List, [], ◌∷◌, ◌++◌, codes, length, map}
 use Rattle.std.specs.Fmt.{decimal, signed_decimal}
 use Rattle.std.specs.List.{flat_map}
 use Rattle.zknow.specs.declared.fact.Fact.{Fact}
@@ -9,7 +9,7 @@ use Rattle.zknow_titles.specs.Blocks.{behind_colon}
 use Rattle.zknow_titles.specs.Names.{label}
 use Rattle.zhtml.specs.Texts.{text}
 use Rattle.zknow_html.specs.declared.differences.Differences.{Differences}
-use Rattle.zknow_html.specs.Cells.{column, cell, text_cell, compared_cell, compared_text, compared_list, mark, hidden, row, table}
+use Rattle.zknow_html.specs.Cells.{column, cell, text_cell, compared_cell, compared_text, compared_list, mark, hidden, row, block_end, table}
 use Rattle.zknow_html.specs.Descriptions.{description_of}
 use Rattle.zknow_html.specs.Differences.{DescriptionTexts, no_differences, differences, difference_names}
 
@@ -59,6 +59,22 @@ abbrev pub position_rows : List (List ℕ) → List Fact → RowKey → List ℕ
 position_rows shown facts k =
     described_rows shown k (map description_of (records_at k.target k.set k.position facts))
 
+-- ---- blocks of rows: what a browser lays out together
+
+-- what stands before the rows of a position, if the block has room for so many positions
+abbrev pub block_break : ℕ → List ℕ
+block_break room = if room == 0 then block_end else []
+
+-- for how many it has room behind that; a new block has room for 50
+abbrev pub room_behind : ℕ → ℕ
+room_behind room = (if room == 0 then 50 else room) - 1
+
+-- the rows of each position, from one on
+abbrev pub rows_from : List (List ℕ) → List Fact → ℕ → List RowKey → List ℕ
+rows_from shown facts room [] = []
+rows_from shown facts room (k ∷ rows) =
+    block_break room ++ position_rows shown facts k ++ rows_from shown facts (room_behind room) rows
+
 -- ---- the table
 
 -- the columns of where a record is
@@ -77,4 +93,4 @@ record_columns = place_columns ++ field_columns
 
 -- the table of these rows
 abbrev pub record_table : List (List ℕ) → List Fact → List RowKey → List ℕ
-record_table shown facts rows = table record_columns (flat_map (position_rows shown facts) rows)
+record_table shown facts rows = table record_columns (rows_from shown facts 50 rows)

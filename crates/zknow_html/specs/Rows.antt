@@ -70,9 +70,13 @@ stop_texts_from shown target (s ∷ stops) = stop_texts shown target s ++ stop_t
 abbrev pub mark_text : List ℕ → List ℕ
 mark_text octets = if length octets == 0 then [] else visible octets
 
--- what a reader opens, and what is behind it
+-- a line, with the line feed that ends it
+abbrev pub line_text : List ℕ → List ℕ
+line_text octets = visible octets ++ codes "\n"
+
+-- what a reader opens, and the lines behind it
 abbrev pub hidden_text : List ℕ → List (List ℕ) → List ℕ
-hidden_text title texts = if length texts == 0 then [] else visible title ++ flat_map visible texts
+hidden_text title texts = if length texts == 0 then [] else visible title ++ flat_map line_text texts
 
 -- the texts of what is shown of a record
 abbrev pub description_texts : DescriptionTexts → List (List ℕ)

@@ -4,7 +4,7 @@ ghost use Rattle.std.specs.List.{flat_map};
 ghost use Rattle.zhtml.specs.declared.attributes.AttributeName.TheVariants.{Role};
 ghost use Rattle.zhtml.specs.declared.elements.Element.TheVariants.{Tr, Th, Td, Li};
 ghost use Rattle.zhtml.specs.Markup.{start_tag, void_element, attribute_of};
-ghost use Rattle.zknow_html.specs.Cells.{only, said, said_with, header_of, column, row_header, text_cell, listed, list_cell, mark, class_if, compared_text, compared_list, summary, hidden, row_of, table_start, body_start, table_end};
+ghost use Rattle.zknow_html.specs.Cells.{only, said, said_with, header_of, column, row_header, text_cell, listed, list_cell, mark, class_if, compared_text, compared_list, summary, line, hidden, row_of, table_start, body_start, block_end, table_end};
 
 use std::alloc::{AllocError, Global};
 use zhtml::{
@@ -284,7 +284,27 @@ fn put_summary(alloc: Global, other: bool, title: &str, out: &mut String) -> Res
     )
 }
 
-/// Appends texts that are seen if a reader opens them, nothing if there is none; their title is marked if they differ.
+/// Appends a text and the line feed that ends it.
+#[tactic(auto, unfolding(crate::specs::Cells::line))]
+fn put_line(alloc: Global, octets: &[u8], out: &mut String) -> Result<(), AllocError>
+    ensures { OnOk result (string_bytes out.new ≡ string_bytes out.old ++ line octets.now) }
+{
+    put_text(alloc, octets, out)?;
+    out.push_str("\n")
+}
+
+/// Appends each text as a line.
+fn put_lines(alloc: Global, texts: &[String], out: &mut String) -> Result<(), AllocError>
+    ensures { OnOk result (string_bytes out.new
+        ≡ string_bytes out.old ++ flat_map line (map string_bytes texts.now)) }
+{
+    for text in texts {
+        put_line(alloc, text.as_bytes(), out)?;
+    }
+    Ok(())
+}
+
+/// Appends lines that are seen if a reader opens them, nothing if there is none; their title is marked if they differ.
 pub(crate) fn put_hidden(
     alloc: Global,
     other: bool,
@@ -300,9 +320,9 @@ pub(crate) fn put_hidden(
     }
     put_bare(alloc, Element::Details, out)?;
     put_summary(alloc, other, title, out)?;
-    put_bare(alloc, Element::Ul, out)?;
-    put_items(alloc, texts, out)?;
-    put_end(Element::Ul, out)?;
+    put_bare(alloc, Element::P, out)?;
+    put_lines(alloc, texts, out)?;
+    put_end(Element::P, out)?;
     put_end(Element::Details, out)
 }
 
@@ -340,6 +360,15 @@ pub(crate) fn put_body_start(alloc: Global, out: &mut String) -> Result<(), Allo
 {
     put_end(Element::Tr, out)?;
     put_end(Element::Thead, out)?;
+    put_part(alloc, Element::Tbody, "rowgroup", out)
+}
+
+/// Appends what stands between two blocks of the rows of a table.
+#[tactic(auto, unfolding(crate::specs::Cells::block_end))]
+pub(crate) fn put_block_end(alloc: Global, out: &mut String) -> Result<(), AllocError>
+    ensures { OnOk result (string_bytes out.new ≡ string_bytes out.old ++ block_end) }
+{
+    put_end(Element::Tbody, out)?;
     put_part(alloc, Element::Tbody, "rowgroup", out)
 }
 

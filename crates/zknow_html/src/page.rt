@@ -247,10 +247,11 @@ fn view(
 /// Appends the page. Under `heading` it has a table of the catalogues: a row for each target's set of which a count, a
 /// failure or a diagnostic is known, by target and set, with how many records were found, are shown, were refused and
 /// are missing, a bar of the share that is shown, and why any are missing; then a row for each target whose connection
-/// stopped. A table of the records follows: a row for each record that is known, by position, target and set. Behind
-/// its title are the lines that `print_fields` of `zknow_titles` has of it; a reader opens them. Each of several
-/// different records at a position has a mark, whose words say what not all of them have alike. Each cell that differs
-/// is of the class `other`, and so is the title of those lines if they differ. No cell of a single record is.
+/// stopped. A table of the records follows: a row for each record that is known, by position, target and set; the rows
+/// of 50 positions are a block. Behind its title are the lines that `print_fields` of `zknow_titles` has of it, each
+/// ended by a line feed; a reader opens them. Each of several different records at a position has a mark, whose words
+/// say what not all of them have alike. Each cell that differs is of the class `other`, and so is the title of those
+/// lines if they differ. No cell of a single record is.
 ///
 /// Entry `c` of `stops` says why the connection of target `c` stopped; without an entry it did not. A target has its
 /// name in `names`, else `#` and its number.

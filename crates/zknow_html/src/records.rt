@@ -2,11 +2,12 @@
 ghost use Rattle.std.specs.Prelude.{◌≡◌, ◌++◌, codes, map, IfOk, OnOk, string_bytes};
 ghost use Rattle.std.specs.List.{flat_map};
 ghost use Rattle.zknow_titles.specs.Blocks.{behind_colon};
-ghost use Rattle.zknow_html.specs.Records.{name_cell, title_cell, description_cells, record_row, one_of, differing_rows, described_rows, position_rows, place_columns, field_columns, record_columns, record_table};
+ghost use Rattle.zknow_html.specs.Records.{name_cell, title_cell, description_cells, record_row, one_of, differing_rows, described_rows, position_rows, block_break, room_behind, rows_from, place_columns, field_columns, record_columns, record_table};
 
 use crate::cells::{
-    put_body_start, put_cell, put_cell_start, put_column, put_compared_list, put_compared_start,
-    put_compared_text, put_hidden, put_mark, put_row_start, put_table_end, put_table_start,
+    put_block_end, put_body_start, put_cell, put_cell_start, put_column, put_compared_list,
+    put_compared_start, put_compared_text, put_hidden, put_mark, put_row_start, put_table_end,
+    put_table_start,
 };
 use crate::descriptions::describe_each;
 use crate::differences::{Description, Differences, compare, name_differences, no_differences};
@@ -14,6 +15,9 @@ use std::alloc::{AllocError, Global};
 use zhtml::{Element, put_end, put_text};
 use zknow::{Knowledge, RowKey};
 use zknow_titles::{label_of, put_joined, records_of};
+
+/// How many positions a block of rows has at most. A browser lays a block out once it comes near to what is in sight.
+const BLOCK: usize = 50;
 
 /// Appends the cell of a catalogue's name, with a mark behind it.
 #[tactic(auto, unfolding(crate::specs::Records::name_cell))]
@@ -201,7 +205,24 @@ fn put_position(
     put_described(alloc, shown, key, &descriptions, out)
 }
 
-/// Appends the rows of each position.
+/// Begins a new block of rows, if the block has room for no position more.
+fn put_break(alloc: Global, room: usize, out: &mut String) -> Result<(), AllocError>
+    ensures { OnOk result (string_bytes out.new ≡ string_bytes out.old ++ block_break room) }
+{
+    if room == 0 {
+        return put_block_end(alloc, out);
+    }
+    Ok(())
+}
+
+/// Returns for how many positions a block has room behind one that had room for so many.
+fn room_behind(room: usize) -> usize
+    ensures { result ≡ room_behind room }
+{
+    if room == 0 { BLOCK - 1 } else { room - 1 }
+}
+
+/// Appends the rows of each position, in blocks.
 fn put_positions(
     alloc: Global,
     shown: &[String],
@@ -210,10 +231,13 @@ fn put_positions(
     out: &mut String,
 ) -> Result<(), AllocError>
     ensures { OnOk result (string_bytes out.new ≡ string_bytes out.old
-        ++ flat_map (position_rows (map string_bytes shown.now) knowledge.now) rows.now) }
+        ++ rows_from (map string_bytes shown.now) knowledge.now 50 rows.now) }
 {
+    let mut room = BLOCK;
     for key in rows {
+        put_break(alloc, room, out)?;
         put_position(alloc, shown, knowledge, key, out)?;
+        room = room_behind(room);
     }
     Ok(())
 }

@@ -1,7 +1,8 @@
 //! The style sheet of the page, and what the page may load.
 
 /// The style sheet: one line, of which `POLICY` has the hash. On a narrow screen each cell is a line, with the title of
-/// its column before it; the headers of columns are then out of sight, and not out of the tree.
+/// its column before it; the headers of columns are then out of sight, and not out of the tree. Of several blocks of
+/// rows a browser lays out those that come near to what is in sight.
 pub const STYLE: &str = "\
     :root{color-scheme:light dark;--ink:#1b1c1f;--paper:#fff;--line:#cfd0d6;--band:#f3f3f6;--mark:#8f3500}\
     @media (prefers-color-scheme:dark){:root{--ink:#e9e9ec;--paper:#15161a;--line:#3b3c44;--band:#202127;\
@@ -17,11 +18,11 @@ pub const STYLE: &str = "\
     background:var(--band)}.differs td:first-child{box-shadow:inset .25rem 0 var(--mark)}.other{\
     outline:1.5px dashed var(--mark);outline-offset:-2px}summary.other{outline-offset:1px}strong{display:block;\
     color:var(--mark);font-size:.85rem}meter{width:6rem}ul{margin:0;padding-inline-start:1.1rem}summary{\
-    width:fit-content;cursor:pointer;color:var(--mark);font-size:.85rem}details ul{list-style:none;padding:0 0 0 2ch;\
-    text-indent:-2ch;font:.85rem/1.4 ui-monospace,monospace;white-space:pre-wrap}@media screen{:is(#records,#new,\
-    #changed,#gone)~.region :is(table,tbody){display:block}.differs,.record{content-visibility:auto;\
-    contain-intrinsic-size:auto 4rem}}@media screen and (min-width:52.01rem){:is(#records,#new,#changed,\
-    #gone)~.region thead{display:block}:is(#records,#new,#changed,#gone)~.region tr{display:grid;\
+    width:fit-content;cursor:pointer;color:var(--mark);font-size:.85rem}details p{margin:0;\
+    text-indent:2ch hanging each-line;font:.85rem/1.4 ui-monospace,monospace;white-space:pre-wrap}@media screen{\
+    :is(#records,#new,#changed,#gone)~.region :is(table,tbody){display:block}tbody:not(:only-of-type){\
+    content-visibility:auto;contain-intrinsic-size:auto 200rem}}@media screen and (min-width:52.01rem){:is(#records,\
+    #new,#changed,#gone)~.region thead{display:block}:is(#records,#new,#changed,#gone)~.region tr{display:grid;\
     grid-template-columns:5.5rem minmax(8.5rem,1.7fr) 4rem minmax(0,3fr) minmax(0,1.9fr) 10rem minmax(0,1.2fr)}}\
     @media screen and (max-width:52rem){thead{position:absolute;width:1px;height:1px;overflow:hidden;\
     clip-path:inset(50%)}table,tbody,tbody tr,tbody th,td{display:block}tbody tr{padding:.5rem 0;\
@@ -44,4 +45,4 @@ pub const STYLE: &str = "\
 /// What the page may load (Content Security Policy Level 3): nothing; and which style sheet it may use, by the SHA-256
 /// of `STYLE` in base64.
 pub const POLICY: &str =
-    "default-src 'none'; style-src 'sha256-cGxeEfJ0iktgijhmWY1L1K0CHGUAS63KX9SawkLjLc0='";
+    "default-src 'none'; style-src 'sha256-V+LxJMy5S068n6uIor4JmjrZ3VrtVMCf3oAi9zHRUE4='";

@@ -54,27 +54,27 @@ const WANTED: &str = "\
     <th scope=\"col\" role=\"columnheader\">ISBN</th><th scope=\"col\" role=\"columnheader\">Copies</th>\
     </tr></thead><tbody role=\"rowgroup\">\
     <tr class=\"record\" role=\"row\"><td role=\"cell\">1</td><td role=\"cell\">city library</td>\
-    <td role=\"cell\">1991</td><td role=\"cell\">How to program a computer<details><summary>Fields</summary><ul>\
-    <li>00133nam  22000611a 4500</li><li>020    $a 0839108826</li>\
-    <li>245 10 $a How to program a computer / $c Jack Collins.</li><li>260    $c 1991</li></ul></details></td>\
+    <td role=\"cell\">1991</td><td role=\"cell\">How to program a computer<details><summary>Fields</summary><p>\
+    00133nam  22000611a 4500\n020    $a 0839108826\n\
+    245 10 $a How to program a computer / $c Jack Collins.\n260    $c 1991\n</p></details></td>\
     <td role=\"cell\">Jack Collins.</td><td role=\"cell\">0839108826</td><td role=\"cell\"></td></tr>\
     <tr class=\"record\" role=\"row\"><td role=\"cell\">1</td><td role=\"cell\">old library</td>\
-    <td role=\"cell\">1976</td><td role=\"cell\">Children of Dune<details><summary>Fields</summary><ul>\
-    <li>00097nam  22000491a 4500</li><li>245 10 $a Children of Dune / $c Frank Herbert</li><li>260    $c 1976</li>\
-    </ul></details></td><td role=\"cell\">Frank Herbert</td><td role=\"cell\"></td><td role=\"cell\"></td></tr>\
+    <td role=\"cell\">1976</td><td role=\"cell\">Children of Dune<details><summary>Fields</summary><p>\
+    00097nam  22000491a 4500\n245 10 $a Children of Dune / $c Frank Herbert\n260    $c 1976\n\
+    </p></details></td><td role=\"cell\">Frank Herbert</td><td role=\"cell\"></td><td role=\"cell\"></td></tr>\
     <tr class=\"differs\" role=\"row\"><td role=\"cell\">2</td>\
     <td role=\"cell\">city library<strong>one of 2 different records: year, fields</strong></td>\
     <td class=\"other\" role=\"cell\">1965</td>\
-    <td role=\"cell\">Dune messiah<details><summary class=\"other\">Fields</summary><ul>\
-    <li>00093nam  22000491a 4500</li>\
-    <li>245 10 $a Dune messiah / $c Frank Herbert</li><li>260    $c 1965</li></ul></details></td>\
+    <td role=\"cell\">Dune messiah<details><summary class=\"other\">Fields</summary><p>\
+    00093nam  22000491a 4500\n\
+    245 10 $a Dune messiah / $c Frank Herbert\n260    $c 1965\n</p></details></td>\
     <td role=\"cell\">Frank Herbert</td><td role=\"cell\"></td><td role=\"cell\"></td></tr>\
     <tr class=\"differs\" role=\"row\"><td role=\"cell\">2</td>\
     <td role=\"cell\">city library<strong>one of 2 different records: year, fields</strong></td>\
     <td class=\"other\" role=\"cell\">1969</td>\
-    <td role=\"cell\">Dune messiah<details><summary class=\"other\">Fields</summary><ul>\
-    <li>00093nam  22000491a 4500</li>\
-    <li>245 10 $a Dune messiah / $c Frank Herbert</li><li>260    $c 1969</li></ul></details></td>\
+    <td role=\"cell\">Dune messiah<details><summary class=\"other\">Fields</summary><p>\
+    00093nam  22000491a 4500\n\
+    245 10 $a Dune messiah / $c Frank Herbert\n260    $c 1969\n</p></details></td>\
     <td role=\"cell\">Frank Herbert</td><td role=\"cell\"></td><td role=\"cell\"></td></tr>\
     <tr class=\"record\" role=\"row\"><td role=\"cell\">3</td><td role=\"cell\">city library</td>\
     <td role=\"cell\"></td><td role=\"cell\">not shown: 238 Record not available in requested syntax</td>\
