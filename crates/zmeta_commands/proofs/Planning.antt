@@ -56,7 +56,7 @@ unplanned search (Some known) octets world f same is h =
 -- ---- what came of it
 
 as_asked : (choice : ChoiceTexts) (search : SearchTexts) (view : View) (octets : List ℕ) (e : NetworkRun)
-    (result : Result Finished Fault) → IsNetworkFile search octets e → AskNetworkResult choice view e result
+    (result : Result Finished Fault) → IsNetworkFile search octets e → AskNetworkResult choice [] view e result
     → AskFileResult choice search view octets result
 as_asked choice search view octets e (Ok r) from h = (e, from, h)
 as_asked choice search view octets e (Err (NoQuestion unknown)) from h = (e, from, h)
@@ -64,7 +64,7 @@ as_asked choice search view octets e (Err Memory) from h = tt
 as_asked choice search view octets e (Err f) from h = absurd h
 
 pub asked_file : (choice : ChoiceTexts) (search : SearchTexts) (view : View) (file : Option (List ℕ)) (p : Planned)
-    (result : Result Finished Fault) → IsPlannedOf search file p → AskNetworkResult choice view p.network result
+    (result : Result Finished Fault) → IsPlannedOf search file p → AskNetworkResult choice [] view p.network result
     → IfSome file (λ octets. AskFileResult choice search view octets result)
 asked_file choice search view None p result planned h = tt
 asked_file choice search view (Some octets) p result planned h = as_asked choice search view octets p.network result

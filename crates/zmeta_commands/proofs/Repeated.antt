@@ -191,7 +191,7 @@ same_last (z ∷ xs) [] x y a b = absurd a
 same_last (u ∷ xs) (v ∷ ys) x y a b = (a.0, same_last xs ys x y a.1 b)
 
 module _ (one other : Limits) (n m : List Notice) (meta again : MetaLinks) (known : IsSameKnown meta again) where
-  same_stops : (xs ys : List (Option Stop)) → AreStopsOf one n meta xs → AreStopsOf other m again ys
+  same_stops : (xs ys : List (Option Stop)) → AreStopsOf one [] n meta xs → AreStopsOf other [] m again ys
       → length xs ≡ length ys
       → ((c : ℕ) → c < length xs → IsSameWait one other (notice_at n c) (notice_at m c)) → AreSameStops xs ys
   same_stops xs ys none none e wait = tt
@@ -238,7 +238,7 @@ module _ (l : Laws) (choice : ChoiceTexts) (search : SearchTexts) (view : View) 
     (entries : List TraceEntry) (trace : Trace) (p : Playback) where
   -- the same plan, and the same head
   core : (e : NetworkRun) (by : IsTraceBy choice search file e r entries) → IsNetworkFile search file e
-      → IsAskedOf choice view e r → AreNoticed choice.limits (length e.questions) r entries → AreShort choice.limits
+      → IsAskedOf choice [] view e r → AreNoticed choice.limits (length e.questions) r entries → AreShort choice.limits
       → IsReplayedBy view trace (head_by choice search file by.start) e p → trace.entries.items ≡ entries
       → trace.is_cut ≡ false → IsSameFinished r p.finished × (p.is_cut ≡ false)
   core e by from of told short again items whole =
@@ -288,11 +288,11 @@ module _ (l : Laws) (choice : ChoiceTexts) (search : SearchTexts) (view : View) 
       r.stops.items p.finished.stops.items stopped.each stops.each
       (stopped.size ∙ known.size ∙ sym stops.size) wait in (
         record {
-          names = of.listed.named ∙ sym again.listed.named;
-          addresses = of.listed.at ∙ second ∙ sym again.listed.at;
+          names = of.put.listed.named ∙ sym again.listed.named;
+          addresses = of.put.listed.at ∙ second ∙ sym again.listed.at;
           known = known;
           stops = stop;
-          list = of.listed.list
+          list = of.put.listed.list
               ∙ l.view e.names view r.stops.items p.finished.stops.items r.meta.pool.knowledge stop
               ∙ ap (printed e.names view p.finished.stops.items) known.facts ∙ sym again.listed.list;
         },
@@ -321,7 +321,7 @@ module _ (l : Laws) (choice : ChoiceTexts) (search : SearchTexts) (view : View) 
       subst (λ (k : HeadTexts). IsNetworkFile k.search k.world g) same from.from in
       let one : g ≡ e = l.plan asker search file g e (plan_of plan) (plan_of t.traced.1) in
       let two : t.asked.0 ≡ e = l.plan asker search file t.asked.0 e (plan_of t.asked.1) (plan_of t.traced.1) in
-      core e by t.traced.1 (subst (λ (z : NetworkRun). IsAskedOf choice view z r) two t.asked.2) t.noticed t.short
+      core e by t.traced.1 (subst (λ (z : NetworkRun). IsAskedOf choice [] view z r) two t.asked.2) t.noticed t.short
       (subst (λ (z : NetworkRun). IsReplayedBy view trace head z p) one
       (subst (λ (k : HeadTexts). IsReplayedBy view trace k g p) same again)) read.0 read.1
 

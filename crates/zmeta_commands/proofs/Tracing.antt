@@ -9,11 +9,8 @@ use Rattle.zmeta_devices.specs.declared.fault.Status.{Status}
 use Rattle.zmeta_devices.specs.Files.{MadeFiles, IsDraft, MakesNone, MakesFile, MakesInPart}
 use Rattle.zmeta_trace.specs.Given.{given_entries}
 use Rattle.zmeta_world.specs.Search.{SearchTexts}
-use Rattle.zoom.specs.Asked.{IsAskedBy}
-use Rattle.zoom.specs.Asking.{inquiry_of, first_entries, IsTracedAsk}
+use Rattle.zoom.specs.Asking.{first_entries, IsTracedAsk}
 use Rattle.zoom.specs.Lines.{trace_of}
-use Rattle.zoom.specs.Metas.{MetaLinks}
-use Rattle.zoom.specs.Replays.{history_after}
 use Rattle.zoom.specs.TraceEntry.{TraceEntry}
 use Rattle.zoom.specs.Tracer.{Tracer}
 use Rattle.zoom.specs.Tracing.{IsTracedOn, IsTracedIf, IsWrittenOut}
@@ -84,13 +81,12 @@ has_logged contents logged es fs (Some given) (Some left) b t w =
 
 -- the trace that is left has the lines of what was given, and of what was reported
 pub traced_network : {W : Type 0} (contents : W → Option (List ℕ)) (logged : MadeFiles) (choice : ChoiceTexts)
-    (search : SearchTexts) (p : Planned) (r : Finished) (chosen : List (Option (List ℕ))) (meta : MetaLinks)
-    (given left : Option (Tracer W))
-    → IsChosen choice.only p.network.names p.network.addresses chosen → r.meta ≡ meta
+    (search : SearchTexts) (p : Planned) (r : Finished) (chosen : List (Option (List ℕ))) (given left : Option (Tracer W))
+    → IsChosen choice.only p.network.names p.network.addresses chosen
     → IsBegun contents logged (given_entries p.world search choice.only) given
-    → IsTracedAsk contents p.network.questions p.network.settings choice.manner choice.limits chosen given meta left
+    → IsTracedAsk contents p.network.questions p.network.settings choice.manner choice.limits [] chosen given r.meta left
     → IsTracedNetwork contents logged choice search p r left
-traced_network contents logged choice search p r chosen meta given left picks same b asked = record {
+traced_network contents logged choice search p r chosen given left picks b asked = record {
   entries = trace_entries choice search p.world asked.start asked.entries;
   are = record {
     chosen = chosen;
@@ -99,8 +95,7 @@ traced_network contents logged choice search p r chosen meta given left picks sa
     rest = asked.entries;
     whole = refl;
     writable = asked.writable;
-    asked = subst (IsAskedBy (inquiry_of p.network.questions p.network.settings choice.manner choice.limits chosen
-        asked.start) (history_after asked.entries [])) (sym same) asked.asked;
+    asked = asked.asked;
   };
   logs = has_logged contents logged (given_entries p.world search choice.only)
       (first_entries choice.manner choice.limits asked.start ++ asked.entries) given left b asked.traced asked.written;

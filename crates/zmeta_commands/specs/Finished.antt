@@ -6,6 +6,7 @@ use Rattle.zapdu.specs.Text.{quoted}
 use Rattle.zmeta_args.specs.declared.arguments.View.{View}
 use Rattle.zknow.specs.Known.{HasFailure}
 use Rattle.zknow_stops.specs.declared.stop.Stop.{Stop}
+use Rattle.zoom.specs.HostWaits.{HostWaits}
 use Rattle.zoom.specs.Limits.{Limits}
 use Rattle.zoom.specs.Notice.{Notice}
 use Rattle.zmeta_devices.specs.Explained.{stop_line}
@@ -31,14 +32,14 @@ use Rattle.zmeta_commands.specs.declared.finished.Finished.{Finished}
 abbrev pub asker : List ℕ
 asker = codes "zmeta"
 
--- the list of the facts of these connections, and why they stopped, with these limits, and by what was noticed of their
--- hosts; their questions were put to these addresses, or to targets in memory
-pub record IsListed (limits : Limits) (noticed : List Notice) (meta : MetaLinks) (names : List (List ℕ))
-    (addresses : List (Option (List ℕ))) (view : View) (r : Finished) : Type 0 where
+-- the list of the facts of these connections, and why they stopped, with these limits and waiting times of hosts' own,
+-- and by what was noticed of their hosts; their questions were put to these addresses, or to targets in memory
+pub record IsListed (limits : Limits) (waits : List HostWaits) (noticed : List Notice) (meta : MetaLinks)
+    (names : List (List ℕ)) (addresses : List (Option (List ℕ))) (view : View) (r : Finished) : Type 0 where
   pub of : r.meta ≡ meta
   pub at : r.addresses.items ≡ addresses
   pub named : r.names ≡ names
-  pub stopped : AreStops limits noticed meta r.stops.items
+  pub stopped : AreStops limits waits noticed meta r.stops.items
   pub list : r.list.items ≡ printed names view r.stops.items meta.pool.knowledge
 
 -- each connection has a name, and there are fewer than 2 ^ 32

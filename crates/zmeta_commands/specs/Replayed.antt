@@ -48,7 +48,7 @@ pub record AreShort (limits : Limits) : Type 0 where
 pub record AreNoticed (limits : Limits) (count : ℕ) (r : Finished) (entries : List TraceEntry) : Type 0 where
   pub noticed : List Notice
   pub tells : AreNotices count entries noticed
-  pub stopped : AreStops limits noticed r.meta r.stops.items
+  pub stopped : AreStops limits [] noticed r.meta r.stops.items
 
 -- The hosts of a file were asked, and the entries are those of the trace. What was given are octets, the limits are
 -- short, and what was noticed of the hosts is what the entries tell of it.

@@ -8,6 +8,8 @@ use Rattle.zber.specs.declared.fault.FaultKind.TheVariants as faults
 use Rattle.zknow_stops.specs.declared.detail.Detail.{Detail}
 use Rattle.zknow_stops.specs.declared.detail.Detail.TheVariants as details
 use Rattle.zknow_stops.specs.declared.stop.Stop.{Stop}
+use Rattle.zoom.specs.Asking.{limits_at}
+use Rattle.zoom.specs.HostWaits.{HostWaits}
 use Rattle.zoom.specs.Limits.{Limits}
 use Rattle.zoom.specs.Metas.{MetaLinks}
 use Rattle.zoom.specs.Notice.{Notice}
@@ -72,15 +74,17 @@ abbrev pub notice_at : List Notice → ℕ → Notice
 notice_at noticed c = unwrap_or (slice_get noticed c) notices.Nothing
 
 -- why each of the first connections stopped
-pub data AreStopsOf (limits : Limits) (noticed : List Notice) (meta : MetaLinks) : List (Option Stop) → Type 0 where
-  none : AreStopsOf limits noticed meta []
+pub data AreStopsOf (limits : Limits) (waits : List HostWaits) (noticed : List Notice) (meta : MetaLinks)
+    : List (Option Stop) → Type 0 where
+  none : AreStopsOf limits waits noticed meta []
   more : {stops : List (Option Stop)} (state : State) (stop : Option Stop)
-      → AreStopsOf limits noticed meta stops → IsStateAt (length stops) meta.pool state
-      → IsStopOf limits (notice_at noticed (length stops)) state stop
-      → AreStopsOf limits noticed meta (stops ++ stop ∷ [])
+      → AreStopsOf limits waits noticed meta stops → IsStateAt (length stops) meta.pool state
+      → IsStopOf (limits_at limits waits (length stops)) (notice_at noticed (length stops)) state stop
+      → AreStopsOf limits waits noticed meta (stops ++ stop ∷ [])
 
--- why each connection stopped, with these limits, and by what was noticed of its host
-pub record AreStops (limits : Limits) (noticed : List Notice) (meta : MetaLinks) (stops : List (Option Stop))
+-- why each connection stopped, with these limits and waiting times of hosts' own, and by what was noticed of its host
+pub record AreStops (limits : Limits) (waits : List HostWaits) (noticed : List Notice) (meta : MetaLinks)
+    (stops : List (Option Stop))
     : Type 0 where
   pub size : length stops ≡ length meta.pool.connections
-  pub each : AreStopsOf limits noticed meta stops
+  pub each : AreStopsOf limits waits noticed meta stops

@@ -106,7 +106,7 @@ pub record IsTraceBy (choice : ChoiceTexts) (search : SearchTexts) (file : List 
   pub rest : List TraceEntry
   pub whole : entries ≡ trace_entries choice search file start rest
   pub writable : AreWritable (first_entries choice.manner choice.limits start ++ rest)
-  pub asked : IsAskedBy (inquiry_of e.questions e.settings choice.manner choice.limits chosen start)
+  pub asked : IsAskedBy (inquiry_of e.questions e.settings choice.manner choice.limits [] chosen start)
       (history_after rest []) r.meta
 
 -- the same for the plan of a file

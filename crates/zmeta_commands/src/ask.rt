@@ -1,15 +1,16 @@
 //! The command `ask`: puts the questions of a world file to its hosts.
 
-ghost use Rattle.std.specs.Prelude.{◌≡◌, ◌<◌, ◌^◌, length, IfOk, IfErr, IfSome};
+ghost use Rattle.std.specs.Prelude.{◌≡◌, ◌<◌, ◌^◌, [], length, Ok, Err, IfOk, IfErr, IfSome, MatchResult};
 ghost use Rattle.std.specs.Option.{option_map};
 ghost use Rattle.zmeta_world.specs.Search.{search_texts};
 ghost use Rattle.zoom.specs.Askable.{AreAskable, AreFit};
 ghost use Rattle.zoom.specs.Asking.{IsAsked, IsTracedAsk};
 ghost use Rattle.zmeta_devices.specs.Devices.{outputs};
 ghost use Rattle.zmeta_commands.specs.Finished.{HasNames, IsOfSearchedWorld};
-ghost use Rattle.zmeta_commands.specs.Choice.{choice_texts};
+ghost use Rattle.zmeta_args.specs.Texts.{texts_of};
+ghost use Rattle.zmeta_commands.specs.Choice.{choice_texts, AddressesResult};
 ghost use Rattle.zmeta_commands.specs.Searches.{search_of};
-ghost use Rattle.zmeta_commands.specs.Ask.{CanBeAsked, AskNetworkResult, AskFileResult, IsOfAsking};
+ghost use Rattle.zmeta_commands.specs.Ask.{CanBeAsked, IsAskedAt, AskNetworkResult, AskFileResult, IsOfAsking};
 ghost use Rattle.zmeta_commands.specs.Traced.{PlannedResult, IsTracedNetwork, IsTracedFile, AfterTracedAsk, finished_of};
 
 use crate::choice::{Choice, addresses_of};
@@ -29,7 +30,7 @@ use zmeta_devices::files::Folder;
 use zmeta_devices::output::Output;
 use zmeta_world::network::NetworkRun;
 use zmeta_world::search::Search;
-use zoom::{Asked, Limits, Manner, MetaSettings, Question, Tracer, ask};
+use zoom::{Asked, HostWaits, Limits, Manner, MetaSettings, Question, Tracer, ask};
 
 /// The octets of a world file, and the network run of its world.
 struct Planned {
@@ -165,20 +166,75 @@ fn ask_network<'a, S: Folder + Net + Clock, P: Write + Drop>(
     screen: Option<P>,
 ) -> Result<Answered<S::Log>, Fault<'a>>
     requires { CanBeAsked planned.network }
-    ensures asked { AskNetworkResult (choice_texts choice.entry) view.entry planned.network (finished_of result) }
+    ensures asked { AskNetworkResult (choice_texts choice.entry) [] view.entry planned.network (finished_of result) }
     ensures traced { IfOk result (λ answered. IsTracedNetwork S.Log.contents (S.logged system.now)
         (choice_texts choice.entry) (search_texts texts.now) planned answered.finished answered.trace) }
     ensures sound { IfOk result (λ answered. HasNames answered.finished) }
 {
     let Planned { world, network } = planned;
+    let chosen = chosen_of(alloc, choice.only, &network)?;
+    let begun = begin_trace(alloc, system, trace, world, texts, choice.only)?;
+    let answered = ask_chosen(
+        alloc,
+        system,
+        network,
+        chosen,
+        &[],
+        begun,
+        choice,
+        view,
+        screen,
+    )?;
+    Ok(answered)
+}
+
+/// Returns the address of each chosen question of a plan, and `None` for each other question. `NoQuestion` gives the
+/// first name in `only` that no question has.
+fn chosen_of<'a>(
+    alloc: Global,
+    only: &[&'a str],
+    network: &NetworkRun,
+) -> Result<Vec<Option<Bytes>>, Fault<'a>>
+    requires { CanBeAsked network.now }
+    ensures { MatchResult result (λ chosen. AddressesResult (texts_of only.now) network.now.names network.now.addresses
+        (Ok chosen.items))
+        (λ fault. AddressesResult (texts_of only.now) network.now.names network.now.addresses (Err fault)) }
+{
+    addresses_of(
+        alloc,
+        only,
+        network.names.as_slice(),
+        network.addresses.as_slice(),
+    )
+}
+
+/// Asks the hosts at the addresses of the chosen questions, and makes the list. `waits` are the waiting times that hosts
+/// have of their own. If it is not empty, no trace is left.
+fn ask_chosen<S: Net + Clock, P: Write + Drop, T: Write + Drop>(
+    alloc: Global,
+    system: &S,
+    network: NetworkRun,
+    chosen: Vec<Option<Bytes>>,
+    waits: &[HostWaits],
+    trace: Option<Tracer<T>>,
+    choice: Choice<'_, '_>,
+    view: View<'_>,
+    screen: Option<P>,
+) -> Result<Answered<T>, AllocError>
+    requires can { CanBeAsked network }
+    requires equal { length chosen.items ≡ length network.addresses }
+    ensures asked { IfOk result (λ answered. IsAskedAt (choice_texts choice.entry) waits.now chosen.items view.entry
+        network answered.finished) }
+    ensures traced { IfOk result (λ answered. IsTracedAsk T.contents network.questions network.settings
+        choice.entry.manner choice.entry.limits waits.now chosen.items trace answered.finished.meta answered.trace) }
+    ensures sound { IfOk result (λ answered. HasNames answered.finished) }
+{
     let NetworkRun {
         questions,
         settings,
-        addresses,
+        addresses: _,
         names,
     } = network;
-    let chosen = addresses_of(alloc, choice.only, names.as_slice(), addresses.as_slice())?;
-    let begun = begin_trace(alloc, system, trace, world, texts, choice.only)?;
     let progress = Progress::new(alloc, system, screen, names.as_slice(), chosen.as_slice());
     let asked = ask_watched(
         alloc,
@@ -188,8 +244,9 @@ fn ask_network<'a, S: Folder + Net + Clock, P: Write + Drop>(
         chosen.as_slice(),
         choice.manner,
         choice.limits,
+        waits,
         progress,
-        begun,
+        trace,
     )?;
     let Asked {
         meta,
@@ -204,6 +261,7 @@ fn ask_network<'a, S: Folder + Net + Clock, P: Write + Drop>(
         chosen,
         notices.as_slice(),
         &limits,
+        waits,
         view,
     )?;
     Ok(Answered {
@@ -221,6 +279,7 @@ fn ask_watched<N: Net + Clock, C: Clock, P: Write + Drop, T: Write + Drop>(
     addresses: &[Option<Bytes>],
     manner: Manner,
     limits: Limits,
+    waits: &[HostWaits],
     mut progress: Progress<'_, C, P>,
     trace: Option<Tracer<T>>,
 ) -> Result<Asked<T>, AllocError>
@@ -228,9 +287,10 @@ fn ask_watched<N: Net + Clock, C: Clock, P: Write + Drop, T: Write + Drop>(
     requires askable { AreAskable questions.items }
     requires fit { AreFit settings }
     requires equal { length addresses.now ≡ length questions.items }
-    ensures asked { IfOk result (λ asked. IsAsked questions.items settings manner limits addresses.now asked.meta) }
-    ensures traced { IfOk result (λ asked. IsTracedAsk T.contents questions.items settings manner limits addresses.now
-        trace asked.meta asked.trace) }
+    ensures asked { IfOk result
+        (λ asked. IsAsked questions.items settings manner limits waits.now addresses.now asked.meta) }
+    ensures traced { IfOk result (λ asked. IsTracedAsk T.contents questions.items settings manner limits waits.now
+        addresses.now trace asked.meta asked.trace) }
 {
     let asked = ask(
         alloc,
@@ -240,6 +300,7 @@ fn ask_watched<N: Net + Clock, C: Clock, P: Write + Drop, T: Write + Drop>(
         addresses,
         manner,
         limits,
+        waits,
         &mut progress,
         trace,
     )?;

@@ -19,7 +19,7 @@ use zmeta_devices::files::Folder;
 use zmeta_devices::output::Output;
 use zmeta_offline::saved::save_facts;
 use zmeta_offline::view::print_view;
-use zoom::{Limits, Meta, Notice};
+use zoom::{HostWaits, Limits, Meta, Notice};
 
 /// The program's name as an origin.
 pub(crate) const NAME: &[u8] = b"zmeta";
@@ -51,7 +51,7 @@ pub struct Paths<'a> {
 
 impl Finished {
     /// Returns finished connections, with the list of their facts, and why they stopped. `noticed` is what was noticed
-    /// of the host of each connection.
+    /// of the host of each connection, and `waits` are the waiting times that hosts have of their own.
     pub(crate) fn new(
         alloc: Global,
         meta: Meta,
@@ -59,12 +59,14 @@ impl Finished {
         addresses: Vec<Option<Bytes>>,
         noticed: &[Notice],
         limits: &Limits,
+        waits: &[HostWaits],
         view: View<'_>,
     ) -> Result<Finished, AllocError>
         requires { length meta.pool.connections < 2 ^ 32 }
-        ensures { IfOk result (IsListed limits.now noticed.now meta names addresses.items view.entry) }
+        ensures { IfOk result (IsListed limits.now waits.now noticed.now meta names addresses.items
+            view.entry) }
     {
-        let stops = stops_of(alloc, &meta, noticed, limits)?;
+        let stops = stops_of(alloc, &meta, noticed, limits, waits)?;
         let mut list = Vec::new(alloc);
         print_view(
             alloc,

@@ -313,6 +313,7 @@ fn replay_chosen<'a>(
         chosen,
         notices.as_slice(),
         &limits,
+        &[],
         view,
     )?;
     Ok(Playback {

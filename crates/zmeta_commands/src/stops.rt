@@ -5,7 +5,7 @@ ghost use Rattle.zmeta_commands.specs.Stops.{unreached_detail, unread_detail, fr
 use std::alloc::{AllocError, Global};
 use zber::FaultKind;
 use zknow_stops::{Detail, Stop};
-use zoom::{Limits, Meta, Notice, Reason, State};
+use zoom::{HostWaits, Limits, Meta, Notice, Reason, State};
 
 /// What can be told of a host that was not reached.
 fn unreached_detail(limits: &Limits, notice: Notice) -> Detail
@@ -84,20 +84,23 @@ fn notice_at(noticed: &[Notice], c: usize) -> Notice
     noticed.get(c).copied().unwrap_or(Notice::Nothing)
 }
 
-/// Returns why each connection stopped, by what was noticed of its host; `None` if it did not fail.
+/// Returns why each connection stopped, by what was noticed of its host; `None` if it did not fail. `waits` are the
+/// waiting times that hosts have of their own.
 pub(crate) fn stops_of(
     alloc: Global,
     meta: &Meta,
     noticed: &[Notice],
     limits: &Limits,
+    waits: &[HostWaits],
 ) -> Result<Vec<Option<Stop>>, AllocError>
     requires { length meta.now.pool.connections < 2 ^ 32 }
-    ensures { IfOk result (λ stops. AreStops limits.now noticed.now meta.now stops.items) }
+    ensures { IfOk result (λ stops. AreStops limits.now waits.now noticed.now meta.now stops.items) }
 {
     let mut stops = Vec::new(alloc);
     for c in 0..meta.connections() {
         let state = meta.state(c as u32);
-        stops.push(stop_of(limits, notice_at(noticed, c), state))?;
+        let limits = limits.at(waits, c);
+        stops.push(stop_of(&limits, notice_at(noticed, c), state))?;
     }
     Ok(stops)
 }

@@ -65,6 +65,7 @@ pub use Rattle.zoom_tcp.specs.Asking
 pub use Rattle.zoom_tcp.specs.Clients
 pub use Rattle.zoom_tcp.specs.Loopback
 pub use Rattle.zoom_tcp.specs.declared.limits.Family
+pub use Rattle.zoom_tcp.specs.declared.limits.HostWaits
 pub use Rattle.zoom_tcp.specs.declared.limits.Limits
 pub use Rattle.zoom_tcp.specs.declared.service.ServeError
 pub use Rattle.zoom_tcp.specs.Serving

@@ -15,8 +15,8 @@ pub use zoom_questions::{MetaSettings, Move, Question};
 pub use zoom_sim::channels::{Channel, InMemory};
 pub use zoom_sim::{run_over, run_world};
 pub use zoom_tcp::{
-    Arrival, Asked, Clients, Family, Limits, ServeError, TcpClients, TcpLink, Unwatched, Watch,
-    ask, run_loopback, serve, serve_over,
+    Arrival, Asked, Clients, Family, HostWaits, Limits, ServeError, TcpClients, TcpLink, Unwatched,
+    Watch, ask, run_loopback, serve, serve_over,
 };
 pub use zoom_trace::{
     EntryError, Given, Notice, Recorder, Trace, TraceEntry, TraceError, Traced, Tracer, feed,

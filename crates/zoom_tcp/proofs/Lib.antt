@@ -1,5 +1,6 @@
 pub mod Serving
 pub mod Pairs
 pub mod Ending
+pub mod Hosts
 pub mod Replayed
 pub mod Telling

@@ -1,11 +1,11 @@
 //! Asks hosts over TCP: does what `zoom_asking` says, and reports what happens on sockets.
 ghost use Rattle.std.specs.Prelude.{◌≡◌, ◌<◌, ◌^◌, length, option_map, IfOk, OnOk};
 ghost use Rattle.zoom_questions.specs.Askable.{AreFit, AreAskable};
-ghost use Rattle.zoom_tcp.specs.Asking.{IsAsked, IsTracedAsk, asked_host, hosts_of};
+ghost use Rattle.zoom_tcp.specs.Asking.{IsAsked, IsTracedAsk, asked_host, hosts_of, trace_beside};
 
 mod telling;
 
-use crate::limits::{Family, Limits};
+use crate::limits::{Family, HostWaits, Limits};
 use crate::names::{Names, addresses_in, resolve};
 use crate::sockets::Sockets;
 use crate::stopwatch::Stopwatch;
@@ -34,8 +34,11 @@ pub struct Asked<T> {
 
 /// Puts each question to the host at the address (`host:port`) with its number, if it has one (Z39.50-2003, 3.2). All
 /// are connected to side by side, without threads. They are talked with at once or in order, as `manner` says. A host
-/// costs its own connection alone if it cannot be reached, fails, or exceeds `limits`. Nothing happens on the
+/// costs its own connection alone if it cannot be reached, fails, or exceeds its limits. Nothing happens on the
 /// connection of a question without an address.
+///
+/// `waits[c]` are the waiting times that the host of connection `c` has of its own. Where the list ends, or a time is
+/// `None`, `limits` hold.
 ///
 /// Hosts with an address in numbers are connected to first. Then the names are looked up, each once. A look-up waits
 /// for the name service of the system, and nobody is served meanwhile. So before the first, and after each for as long
@@ -43,7 +46,8 @@ pub struct Asked<T> {
 ///
 /// If a trace is given, it gets lines: how hosts are asked, and then each report and action, the octets that came and
 /// those to be sent, and what was noticed of the hosts. They are written before each wait. A trace that cannot be
-/// written costs itself alone (`Tracer::has_failed`).
+/// written costs itself alone (`Tracer::has_failed`). Its first lines tell the same waiting times of all hosts, so if
+/// `waits` is not empty, no trace is written, and `Asked::trace` is `None`.
 ///
 /// Returns an error only if no memory is found.
 pub fn ask<N: Net + Clock, V: Watch, T: Write + Drop>(
@@ -54,6 +58,7 @@ pub fn ask<N: Net + Clock, V: Watch, T: Write + Drop>(
     addresses: &[Option<Bytes>],
     manner: Manner,
     limits: Limits,
+    waits: &[HostWaits],
     watch: &mut V,
     trace: Option<Tracer<T>>,
 ) -> Result<Asked<T>, AllocError>
@@ -61,11 +66,12 @@ pub fn ask<N: Net + Clock, V: Watch, T: Write + Drop>(
     requires askable { AreAskable questions.items }
     requires fit { AreFit settings }
     requires equal { length addresses.now ≡ length questions.items }
-    ensures asked { IfOk result (λ asked. IsAsked questions.items settings manner limits addresses.now asked.meta) }
-    ensures traced { IfOk result (λ asked. IsTracedAsk T.contents questions.items settings manner limits addresses.now
-        trace asked.meta asked.trace) }
+    ensures asked { IfOk result
+        (λ asked. IsAsked questions.items settings manner limits waits.now addresses.now asked.meta) }
+    ensures traced { IfOk result (λ asked. IsTracedAsk T.contents questions.items settings manner limits waits.now
+        addresses.now trace asked.meta asked.trace) }
 {
-    let hosts = hosts_of(alloc, addresses, &limits)?;
+    let hosts = hosts_of(alloc, addresses, &limits, waits)?;
     let host = limits.of_host();
     let total = limits.total_nanos();
     let stopwatch = Stopwatch::new(net);
@@ -79,7 +85,7 @@ pub fn ask<N: Net + Clock, V: Watch, T: Write + Drop>(
         total,
         now,
     )?;
-    let mut recorder = Recorder::new(alloc, asking, trace);
+    let mut recorder = Recorder::new(alloc, asking, trace_beside(waits, trace));
     recorder.begin(now, manner, host, total)?;
     let mut shell = Shell {
         alloc,
@@ -101,18 +107,20 @@ pub fn ask<N: Net + Clock, V: Watch, T: Write + Drop>(
     })
 }
 
-/// A host for each address.
+/// A host for each address, with its own waiting times.
 fn hosts_of(
     alloc: Global,
     addresses: &[Option<Bytes>],
     limits: &Limits,
+    waits: &[HostWaits],
 ) -> Result<Vec<Option<AskedHost>>, AllocError>
-    ensures { IfOk result (λ v. v.items ≡ hosts_of limits.now addresses.now) }
+    ensures { IfOk result (λ v. v.items ≡ hosts_of limits.now waits.now addresses.now) }
 {
-    addresses
-        .iter()
-        .map(|address| host_of(address, limits))
-        .collect(alloc)
+    let mut hosts = Vec::new(alloc);
+    for c in 0..addresses.len() {
+        hosts.push(host_of(&addresses[c], &limits.at(waits, c)))?;
+    }
+    Ok(hosts)
 }
 
 /// A host, if there is an address.
@@ -122,6 +130,16 @@ fn host_of(address: &Option<Bytes>, limits: &Limits) -> Option<AskedHost>
     match address {
         Some(_) => Some(limits.of_host()),
         None => None,
+    }
+}
+
+/// The trace that is written: none if hosts have waiting times of their own.
+fn trace_beside<T: Drop>(waits: &[HostWaits], trace: Option<T>) -> Option<T>
+    ensures { result ≡ trace_beside waits.now trace }
+{
+    match waits {
+        [] => trace,
+        _ => None,
     }
 }
 

@@ -19,7 +19,7 @@ mod watch;
 
 pub use asking::{Asked, ask};
 pub use clients::{Arrival, Clients, TcpClients};
-pub use limits::{Family, Limits};
+pub use limits::{Family, HostWaits, Limits};
 pub use link::TcpLink;
 pub use loopback::run_loopback;
 pub use service::{ServeError, serve, serve_over};

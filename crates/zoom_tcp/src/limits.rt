@@ -1,7 +1,7 @@
 //! The limits of asking hosts.
-ghost use Rattle.std.specs.Prelude.{◌≡◌, ◌*◌, ◌^◌, ◌-◌, ◌<◌, min, true, false};
+ghost use Rattle.std.specs.Prelude.{◌≡◌, ◌*◌, ◌^◌, ◌-◌, ◌<◌, min, true, false, Some};
 ghost use Rattle.std.specs.Duration.{as_nanos};
-ghost use Rattle.zoom_tcp.specs.Asking.{nanos, total_of, asked_host};
+ghost use Rattle.zoom_tcp.specs.Asking.{nanos, total_of, asked_host, limits_for, limits_at};
 ghost use Rattle.zoom_tcp.specs.Families.{is_used};
 
 use std::net::SocketAddr;
@@ -45,6 +45,15 @@ pub struct Limits {
     pub family: Family,
 }
 
+/// The waiting times that a host has of its own. `None`: it has none, and `Limits` hold.
+#[derive(Clone, Copy, Debug, PartialEq, Eq)]
+pub struct HostWaits {
+    /// The longest time for connecting to the host, from when its addresses are known.
+    pub connect: Option<Duration>,
+    /// The longest time that the host may be silent.
+    pub patience: Option<Duration>,
+}
+
 impl Default for Limits {
     /// 30 seconds for connecting and of silence, an hour for everything, and all addresses.
     fn default() -> Limits {
@@ -58,7 +67,28 @@ impl Default for Limits {
 }
 
 impl Limits {
-    /// How long to wait for each host.
+    /// The limits of the host of connection `c`: the times at index `c` of `waits` that are some, else these.
+    pub fn at(&self, waits: &[HostWaits], c: usize) -> Limits
+        ensures { result ≡ limits_at self.now waits.now c }
+    {
+        match waits.get(c) {
+            Some(own) => self.with(own),
+            None => *self,
+        }
+    }
+
+    /// The limits of a host with these waiting times of its own.
+    fn with(&self, own: &HostWaits) -> Limits
+        ensures { result ≡ limits_for self.now (Some own.now) }
+    {
+        Limits {
+            connect: own.connect.unwrap_or(self.connect),
+            patience: own.patience.unwrap_or(self.patience),
+            ..*self
+        }
+    }
+
+    /// How long to wait for a host with these limits.
     pub(crate) fn of_host(&self) -> AskedHost
         ensures { result ≡ asked_host self.now }
     {

@@ -8,7 +8,14 @@ use Rattle.zoom_trace.specs.Tracing.{IsTracedIf, IsWrittenOut}
 use Rattle.zoom_trace.proofs.Recorded.{with_more}
 use Rattle.zoom_tcp.specs.Asking.{inquiry_of, first_entries}
 use Rattle.zoom_tcp.proofs.Ending.{asked_by}
+use Rattle.zoom_tcp.proofs.Hosts.{hosts_length}
 use Rattle.zoom_tcp.proofs.asking.ask.Goals as goal
+
+pub new-requires-clause-equal : goal.new-requires-clause-equal
+new-requires-clause-equal g c =
+    ap length (c.as_slice.ensures.value ∙ c.in_ok-hosts.ensures)
+    ∙ hosts_length c.args.limits c.args.waits.now c.args.addresses.now ∙ c.requires.equal
+    ∙ sym (ap length c.from_vec.ensures)
 
 pub ask_all-requires-clause-few : goal.ask_all-requires-clause-few
 ask_all-requires-clause-few g c =
@@ -20,7 +27,8 @@ pub returns : goal.returns
 returns g c =
     let W = g.T.Write.contents in
     let start = c.now-now.result in
-    let i = inquiry_of c.args.questions.items c.args.settings c.args.manner c.args.limits c.args.addresses.now start in
+    let i = inquiry_of c.args.questions.items c.args.settings c.args.manner c.args.limits c.args.waits.now
+    c.args.addresses.now start in
     let first : AskingAfter (inquiry c.from_vec.result c.args.settings c.as_slice.result.now c.args.manner
     c.total_nanos-total.result start) [] c.in_ok-asking.asking = c.in_ok-asking.ensures.after in
     let second = subst
@@ -58,7 +66,7 @@ returns g c =
         asked = by;
         writable = all.writable;
         traced = subst₂ (IsTracedIf W (first_entries c.args.manner c.args.limits start ++ entries))
-            c.new-recorder.ensures.trace (sym c.into_parts-meta.ensures.trace) all.traced;
+            (c.new-recorder.ensures.trace ∙ c.trace_beside.ensures) (sym c.into_parts-meta.ensures.trace) all.traced;
         written = subst IsWrittenOut (sym c.into_parts-meta.ensures.trace) c.in_ok-ask_all.ensures.written;
       };
     }
