@@ -2,7 +2,7 @@
 
 _zmeta_commands='ask replay run loop join new records serve show pqf help'
 _zmeta_syntaxes='marc21 unimarc xml sutrs opac grs1'
-_zmeta_terms='--title --author --subject --isbn --any'
+_zmeta_terms='--title --author --subject --isbn --issn --year --any'
 _zmeta_search="$_zmeta_terms --query --records --elements --syntax"
 _zmeta_views='--titles --fields --json --hex --html'
 _zmeta_limits='--connect --patience --within'
@@ -28,7 +28,7 @@ _zmeta_may() {
     local other excluded
     case $1 in
         --only) excluded='' ;;
-        --title | --author | --subject | --isbn | --any) excluded=--query ;;
+        --title | --author | --subject | --isbn | --issn | --year | --any) excluded=--query ;;
         --query) excluded="--query $_zmeta_terms" ;;
         --titles | --fields | --json | --hex | --html) excluded="$_zmeta_views --quiet" ;;
         --quiet) excluded="$_zmeta_views --quiet" ;;
@@ -52,7 +52,8 @@ _zmeta_options() {
         new) options="$_zmeta_views --heading --explain" ;;
         records) options='--new --only --syntax --conflicts --explain' ;;
         show) options='--trace --only --explain' ;;
-        serve | pqf) options=--explain ;;
+        pqf) options="$_zmeta_terms --explain" ;;
+        serve) options=--explain ;;
         *) left= ;;
     esac
     for option in $options; do
@@ -73,7 +74,8 @@ _zmeta_value() {
 # Word $2 of command $1, of which $3 is typed; the first is 0.
 _zmeta_word() {
     case $1.$2 in
-        ask.0 | replay.0 | run.0 | loop.0 | join.* | new.[01] | records.* | serve.2) _zmeta_files '' "$3" ;;
+        ask.0 | replay.0 | run.0 | loop.0) _zmeta_files '' "$3" ;;
+        join.* | new.[01] | records.* | serve.2) _zmeta_files '' "$3" ;;
         help.0) _zmeta_choose "$_zmeta_commands" "$3" ;;
     esac
 }
@@ -93,6 +95,7 @@ _zmeta_any() {
         join | replay) valued=' --heading --save ' ;;
         new) valued=' --heading ' ;;
         records) valued=' --new --only --syntax ' ;;
+        pqf) valued=" $_zmeta_terms " ;;
     esac
     for ((i = 2; i < ${#words[@]}; i++)); do
         last=${words[i]}

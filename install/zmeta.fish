@@ -1,8 +1,8 @@
 # fish completion for zmeta
 
 # The options that have a value.
-set -g __zmeta_valued --connect --patience --within --only --title --author --subject --isbn --any --query --records --elements \
-    --syntax --heading --save --trace
+set -g __zmeta_valued --connect --patience --within --only --title --author --subject --isbn --issn --year --any \
+    --query --records --elements --syntax --heading --save --trace
 
 # The words before the cursor that are no options, the command first.
 function __zmeta_words
@@ -90,18 +90,22 @@ complete -c zmeta -n '__zmeta_in ask; and __zmeta_lacks -4 --ipv4 -6 --ipv6' -s 
     -d 'Connects to addresses of IPv6 alone'
 complete -c zmeta -n '__zmeta_in ask' -l only -x \
     -d 'Asks just the question of this name; may be given several times'
-complete -c zmeta -n '__zmeta_in ask run loop; and __zmeta_lacks --query' -l title -x \
+complete -c zmeta -n '__zmeta_in ask run loop pqf; and __zmeta_lacks --query' -l title -x \
     -d 'Asks every catalogue for this in a title; may be given several times, and all terms must match'
-complete -c zmeta -n '__zmeta_in ask run loop; and __zmeta_lacks --query' -l author -x \
+complete -c zmeta -n '__zmeta_in ask run loop pqf; and __zmeta_lacks --query' -l author -x \
     -d 'Asks every catalogue for this author; may be given several times'
-complete -c zmeta -n '__zmeta_in ask run loop; and __zmeta_lacks --query' -l subject -x \
+complete -c zmeta -n '__zmeta_in ask run loop pqf; and __zmeta_lacks --query' -l subject -x \
     -d 'Asks every catalogue for this subject; may be given several times'
-complete -c zmeta -n '__zmeta_in ask run loop; and __zmeta_lacks --query' -l isbn -x \
+complete -c zmeta -n '__zmeta_in ask run loop pqf; and __zmeta_lacks --query' -l isbn -x \
     -d 'Asks every catalogue for this ISBN; may be given several times'
-complete -c zmeta -n '__zmeta_in ask run loop; and __zmeta_lacks --query' -l any -x \
+complete -c zmeta -n '__zmeta_in ask run loop pqf; and __zmeta_lacks --query' -l issn -x \
+    -d 'Asks every catalogue for this ISSN; may be given several times'
+complete -c zmeta -n '__zmeta_in ask run loop pqf; and __zmeta_lacks --query' -l year -x \
+    -d 'Asks every catalogue for what was published in this year, or in years as 1980-1985, 1980- or -1985'
+complete -c zmeta -n '__zmeta_in ask run loop pqf; and __zmeta_lacks --query' -l any -x \
     -d 'Asks every catalogue for this anywhere in a record; may be given several times'
 complete -c zmeta -l query -x \
-    -n '__zmeta_in ask run loop; and __zmeta_lacks --query --title --author --subject --isbn --any' \
+    -n '__zmeta_in ask run loop; and __zmeta_lacks --query --title --author --subject --isbn --issn --year --any' \
     -d 'Asks every catalogue this query (PQF), in place of the file\'s'
 complete -c zmeta -n '__zmeta_in ask run loop; and __zmeta_lacks --records' -l records -x \
     -d 'Asks every catalogue for these records: a number, or positions as 1-3,10-12'

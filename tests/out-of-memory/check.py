@@ -28,6 +28,7 @@ RUNS = [
     (["show"], "examples/present-response.hex"),
     (["pqf", "@attr 1=4 dune"], None),
     (["pqf", "@attr 1=4 @and dune @attr 1=1003 herbert"], None),
+    (["pqf", "--title", "dun*", "--isbn", "0-441-01359-7", "--year", "1965-1970", "--any", "sand"], None),
     (["run", "--save", SAVED, "examples/libraries.world"], None),
     # answers that are shorter than what was asked for, and the same with moves
     (["run", "tests/out-of-memory/short.world"], None),

@@ -10,7 +10,7 @@ use Rattle.zmeta_args.specs.declared.arguments.SearchOptions.{SearchOptions}
 use Rattle.zmeta_args.specs.declared.arguments.LimitOptions.{LimitOptions}
 use Rattle.zmeta_args.specs.declared.arguments.CommandLine.{CommandLine}
 use Rattle.zmeta_args.specs.declared.arguments.Arguments.{Arguments}
-use Rattle.zmeta_args.specs.declared.arguments.TheConstants.{HEADING}
+use Rattle.zmeta_args.specs.declared.arguments.TheConstants.{HEADING, CHANGES_HEADING}
 use Rattle.zmeta_args.specs.declared.arguments.Arguments.TheVariants.{Show, Dialogue, Pqf, Join, New, Records, Run, Ask, Replay, Loop, Serve}
 use Rattle.zmeta_args.specs.Texts.{texts_of, now_of}
 
@@ -62,9 +62,9 @@ IsGiven found id = one_text found id ≡ Some (codes "true")
 abbrev pub IsLeftOut : Found → List ℕ → Type 0
 IsLeftOut found id = (one_text found id ≡ None) ⊎ (one_text found id ≡ Some (codes "false"))
 
--- the heading of a page
-abbrev pub heading_of : Found → List ℕ
-heading_of found = unwrap_or (first_value found (codes "heading")) HEADING.now
+-- the heading of a page: this one, if none is given
+abbrev pub heading_of : List ℕ → Found → List ℕ
+heading_of default found = unwrap_or (first_value found (codes "heading")) default
 
 -- a page under this heading is printed
 abbrev pub IsPage : List ℕ → View → Type 0
@@ -72,8 +72,8 @@ IsPage heading (views.Html text) = text.now ≡ heading
 IsPage heading view = ⊥
 
 -- what is printed: the titles, JSON, the list in hexadecimal, the titles with all fields, or a page, if that is asked
--- for, else the list
-pub record HasView (found : Found) (view : View) : Type 0 where
+-- for, else the list; a page has this heading, if none is given
+pub record HasView (heading : List ℕ) (found : Found) (view : View) : Type 0 where
   pub titles : IsGiven found (codes "titles") → view ≡ views.Titles
   pub json : IsLeftOut found (codes "titles") → IsGiven found (codes "json") → view ≡ views.Json
   pub hex : IsLeftOut found (codes "titles") → IsLeftOut found (codes "json") → IsGiven found (codes "hex")
@@ -81,7 +81,7 @@ pub record HasView (found : Found) (view : View) : Type 0 where
   pub fields : IsLeftOut found (codes "titles") → IsLeftOut found (codes "json") → IsLeftOut found (codes "hex")
       → IsGiven found (codes "fields") → view ≡ views.Fields
   pub html : IsLeftOut found (codes "titles") → IsLeftOut found (codes "json") → IsLeftOut found (codes "hex")
-      → IsLeftOut found (codes "fields") → IsGiven found (codes "html") → IsPage (heading_of found) view
+      → IsLeftOut found (codes "fields") → IsGiven found (codes "html") → IsPage (heading_of heading found) view
   pub left_out : IsLeftOut found (codes "titles") → IsLeftOut found (codes "json") → IsLeftOut found (codes "hex")
       → IsLeftOut found (codes "fields") → IsLeftOut found (codes "html") → view ≡ views.Text
 
@@ -100,6 +100,8 @@ pub record HasSearch (found : Found) (s : SearchOptions) : Type 0 where
   pub authors : HasValues found (codes "author") (texts_of s.authors.items)
   pub subjects : HasValues found (codes "subject") (texts_of s.subjects.items)
   pub isbns : HasValues found (codes "isbn") (texts_of s.isbns.items)
+  pub issns : HasValues found (codes "issn") (texts_of s.issns.items)
+  pub years : HasValues found (codes "year") (texts_of s.years.items)
   pub any : HasValues found (codes "any") (texts_of s.any.items)
   pub records : now_of s.records ≡ first_value found (codes "records")
   pub elements : now_of s.elements ≡ first_value found (codes "elements")
@@ -108,7 +110,7 @@ pub record HasSearch (found : Found) (s : SearchOptions) : Type 0 where
 -- the paths of a world file and of a saved file, what is put to every question, and what is printed
 abbrev pub HasWorld : Found → List ℕ → Option (List ℕ) → SearchOptions → View → Type 0
 HasWorld found world saved search view = HasValue found (codes "FILE") world
-    × (saved ≡ first_value found (codes "save")) × HasSearch found search × HasView found view
+    × (saved ≡ first_value found (codes "save")) × HasSearch found search × HasView HEADING.now found view
 
 -- the arguments of the command with this name, as they were found
 abbrev pub AreArgumentsOf : List ℕ → Found → Arguments → Type 0
@@ -116,14 +118,15 @@ AreArgumentsOf name found Show = (name ≡ codes "show") × (first_value found (
 AreArgumentsOf name found (Dialogue trace only) =
     (name ≡ codes "show") × HasValue found (codes "trace") trace.now
     × HasValues found (codes "only") (texts_of only.items)
-AreArgumentsOf name found (Pqf text) = (name ≡ codes "pqf") × HasValue found (codes "TEXT") text.now
+AreArgumentsOf name found (Pqf text search) =
+    (name ≡ codes "pqf") × (now_of text ≡ first_value found (codes "TEXT")) × HasSearch found search
 AreArgumentsOf name found (Join first others saved quiet view) =
     (name ≡ codes "join") × HasValue found (codes "A") first.now
     × HasValues found (codes "B") (texts_of others.items) × (now_of saved ≡ first_value found (codes "save"))
-    × HasFlag found (codes "quiet") quiet × HasView found view
+    × HasFlag found (codes "quiet") quiet × HasView HEADING.now found view
 AreArgumentsOf name found (New earlier later view) =
     (name ≡ codes "new") × HasValue found (codes "OLD") earlier.now × HasValue found (codes "NEW") later.now
-    × HasView found view
+    × HasView CHANGES_HEADING.now found view
 AreArgumentsOf name found (Records first others since only syntax conflicts) =
     (name ≡ codes "records") × HasValue found (codes "A") first.now
     × HasValues found (codes "B") (texts_of others.items) × (now_of since ≡ first_value found (codes "new"))
@@ -137,7 +140,7 @@ AreArgumentsOf name found (Ask world saved trace at_once only limits search view
     × HasValues found (codes "only") (texts_of only.items) × HasLimits found limits
 AreArgumentsOf name found (Replay trace saved view) =
     (name ≡ codes "replay") × HasValue found (codes "TRACE") trace.now
-    × (now_of saved ≡ first_value found (codes "save")) × HasView found view
+    × (now_of saved ≡ first_value found (codes "save")) × HasView HEADING.now found view
 AreArgumentsOf name found (Loop world saved search view) =
     (name ≡ codes "loop") × HasWorld found world.now (now_of saved) search view
 AreArgumentsOf name found (Serve address whose world count) =

@@ -3,10 +3,10 @@
 ghost use Rattle.std.specs.Prelude.{◌≡◌, IfOk, IfSome, codes, map, option_map, slice_get, string_bytes};
 ghost use Rattle.clap.specs.Words.{kind_of, found_of};
 ghost use Rattle.clap.specs.declared.error.kind.ErrorKind.TheVariants.{InvalidValue};
-ghost use Rattle.zmeta_args.specs.Texts.{texts_of};
-ghost use Rattle.zmeta_args.specs.Arguments.{IsParsed, IsLineOf, AreArgumentsOf, HasFlag, HasValues, HasSeconds, HasLimits, HasSearch, HasView, heading_of};
+ghost use Rattle.zmeta_args.specs.Arguments.{IsParsed, IsLineOf, AreArgumentsOf};
 
 use crate::forms::command;
+use crate::found::{has_flag, limits_of, search_of, values_of, view_of};
 use clap::error::ErrorKind;
 use clap::{ArgMatches, Command, Error};
 use std::alloc::{AllocError, Global};
@@ -42,6 +42,10 @@ pub struct SearchOptions<'a> {
     pub subjects: Vec<&'a str>,
     /// ISBNs (Use 7).
     pub isbns: Vec<&'a str>,
+    /// ISSNs (Use 8).
+    pub issns: Vec<&'a str>,
+    /// Years of publication, or spans of them (Use 31).
+    pub years: Vec<&'a str>,
     /// Words from anywhere (Use 1016).
     pub any: Vec<&'a str>,
     /// The wanted records: a number, or ranges of positions as `1-3,10-12`.
@@ -78,9 +82,10 @@ pub enum Arguments<'a> {
         trace: &'a str,
         only: Vec<&'a str>,
     },
-    /// Print a query and its encoding.
+    /// Print a query and its encoding: the query of this text, or else that of the terms of `search`.
     Pqf {
-        text: &'a str,
+        text: Option<&'a str>,
+        search: SearchOptions<'a>,
     },
     /// Print the list of all facts of saved files: the first, and the others. Save the facts if `saved` is a path; with
     /// `quiet`, that alone is done.
@@ -159,8 +164,11 @@ pub struct CommandLine<'a> {
     pub explain: bool,
 }
 
-/// The heading of a page if none is given.
+/// The heading of a page of answers if none is given.
 const HEADING: &str = "What the catalogues answered";
+
+/// The heading of a page of changes if none is given.
+const CHANGES_HEADING: &str = "What is new, changed or gone";
 
 /// Reads the command line: `arguments[0]` is the program's name and `arguments[1]` that of the command.
 ///
@@ -234,13 +242,6 @@ fn named_line<'a>(
     Ok(Some(CommandLine { command, explain }))
 }
 
-/// Returns whether an option without a value is given.
-fn has_flag(found: &ArgMatches<'_>, id: &str) -> bool
-    ensures { HasFlag (found_of found.now) id.now result }
-{
-    found.get_flag(id)
-}
-
 /// Returns the command of this name with the arguments that were found. `None` if no command has the name, or a
 /// required argument is missing.
 fn arguments_of<'a>(
@@ -257,23 +258,9 @@ fn arguments_of<'a>(
         "run" => runs_of(alloc, found),
         "loop" => loops_of(alloc, found),
         "show" => shows_of(alloc, found),
+        "pqf" => queries_of(alloc, found),
         _ => Ok(single_of(name, found)),
     }
-}
-
-/// Returns the values of an argument, in order: none if the argument is not given.
-fn values_of<'a>(
-    alloc: Global,
-    found: &ArgMatches<'a>,
-    id: &str,
-) -> Result<Vec<&'a str>, AllocError>
-    ensures { IfOk result (λ values. HasValues (found_of found.now) id.now (texts_of values.items)) }
-{
-    let mut values = Vec::new(alloc);
-    if let Some(given) = found.get_strs(id) {
-        values.extend_from_slice(given)?;
-    }
-    Ok(values)
 }
 
 /// Returns `join` with its paths: the first, the others, and that of the file to be made.
@@ -289,7 +276,7 @@ fn joins_of<'a>(alloc: Global, found: &ArgMatches<'a>) -> Result<Option<Argument
         others,
         saved: found.get_str("save"),
         quiet: found.get_flag("quiet"),
-        view: view_of(found),
+        view: view_of(found, HEADING),
     }))
 }
 
@@ -333,7 +320,7 @@ fn asks_of<'a>(alloc: Global, found: &ArgMatches<'a>) -> Result<Option<Arguments
         only,
         limits: limits_of(found),
         search,
-        view: view_of(found),
+        view: view_of(found, HEADING),
     }))
 }
 
@@ -348,6 +335,18 @@ fn shows_of<'a>(alloc: Global, found: &ArgMatches<'a>) -> Result<Option<Argument
     Ok(Some(Arguments::Dialogue { trace, only }))
 }
 
+/// Returns `pqf`, with its text if there is one, and its terms.
+fn queries_of<'a>(
+    alloc: Global,
+    found: &ArgMatches<'a>,
+) -> Result<Option<Arguments<'a>>, AllocError>
+    ensures asks { IfOk result (λ arguments. IfSome arguments (AreArgumentsOf (codes "pqf") (found_of found.now))) }
+{
+    let search = search_of(alloc, found)?;
+    let text = found.get_str("TEXT");
+    Ok(Some(Arguments::Pqf { text, search }))
+}
+
 /// Returns `run` with its world file.
 fn runs_of<'a>(alloc: Global, found: &ArgMatches<'a>) -> Result<Option<Arguments<'a>>, AllocError>
     ensures asks { IfOk result (λ arguments. IfSome arguments (AreArgumentsOf (codes "run") (found_of found.now))) }
@@ -360,7 +359,7 @@ fn runs_of<'a>(alloc: Global, found: &ArgMatches<'a>) -> Result<Option<Arguments
         world,
         saved: found.get_str("save"),
         search,
-        view: view_of(found),
+        view: view_of(found, HEADING),
     }))
 }
 
@@ -376,50 +375,8 @@ fn loops_of<'a>(alloc: Global, found: &ArgMatches<'a>) -> Result<Option<Argument
         world,
         saved: found.get_str("save"),
         search,
-        view: view_of(found),
+        view: view_of(found, HEADING),
     }))
-}
-
-/// Returns how long catalogues are waited for, and over which addresses they are asked.
-fn limits_of(found: &ArgMatches<'_>) -> LimitOptions
-    ensures { HasLimits (found_of found.now) result }
-{
-    LimitOptions {
-        connect: seconds_of(found, "connect"),
-        patience: seconds_of(found, "patience"),
-        within: seconds_of(found, "within"),
-        only_v4: found.get_flag("ipv4"),
-        only_v6: found.get_flag("ipv6"),
-    }
-}
-
-/// Returns a number of seconds, if the option is given.
-fn seconds_of(found: &ArgMatches<'_>, id: &str) -> Option<u32>
-    ensures { HasSeconds (found_of found.now) id.now result }
-{
-    found.get_one::<u32>(id)
-}
-
-/// Returns what is put to every question.
-fn search_of<'a>(alloc: Global, found: &ArgMatches<'a>) -> Result<SearchOptions<'a>, AllocError>
-    ensures { IfOk result (HasSearch (found_of found.now)) }
-{
-    let titles = values_of(alloc, found, "title")?;
-    let authors = values_of(alloc, found, "author")?;
-    let subjects = values_of(alloc, found, "subject")?;
-    let isbns = values_of(alloc, found, "isbn")?;
-    let any = values_of(alloc, found, "any")?;
-    Ok(SearchOptions {
-        query: found.get_str("query"),
-        titles,
-        authors,
-        subjects,
-        isbns,
-        any,
-        records: found.get_str("records"),
-        elements: found.get_str("elements"),
-        syntax: found.get_str("syntax"),
-    })
 }
 
 /// Returns a command that takes a fixed number of arguments.
@@ -427,18 +384,15 @@ fn single_of<'a>(name: &str, found: &ArgMatches<'a>) -> Option<Arguments<'a>>
     ensures asks { IfSome result (AreArgumentsOf name.now (found_of found.now)) }
 {
     match name {
-        "pqf" => Some(Arguments::Pqf {
-            text: found.get_str("TEXT")?,
-        }),
         "new" => Some(Arguments::New {
             earlier: found.get_str("OLD")?,
             later: found.get_str("NEW")?,
-            view: view_of(found),
+            view: view_of(found, CHANGES_HEADING),
         }),
         "replay" => Some(Arguments::Replay {
             trace: found.get_str("TRACE")?,
             saved: found.get_str("save"),
-            view: view_of(found),
+            view: view_of(found, HEADING),
         }),
         "serve" => Some(Arguments::Serve {
             address: found.get_str("ADDRESS")?,
@@ -447,38 +401,6 @@ fn single_of<'a>(name: &str, found: &ArgMatches<'a>) -> Option<Arguments<'a>>
             count: found.get_one::<u32>("N")?,
         }),
         _ => None,
-    }
-}
-
-/// Returns the heading of a page.
-fn heading_of<'a>(found: &ArgMatches<'a>) -> &'a str
-    ensures { result.now ≡ heading_of (found_of found.now) }
-{
-    match found.get_str("heading") {
-        Some(heading) => heading,
-        None => HEADING,
-    }
-}
-
-/// Returns what is printed: the titles if `--titles` is given, JSON if `--json` is given, the list in hexadecimal if
-/// `--hex` is given, the titles with all fields if `--fields` is given, a page if `--html` is given, else the list.
-fn view_of<'a>(found: &ArgMatches<'a>) -> View<'a>
-    ensures { HasView (found_of found.now) result }
-{
-    if found.get_flag("titles") {
-        View::Titles
-    } else if found.get_flag("json") {
-        View::Json
-    } else if found.get_flag("hex") {
-        View::Hex
-    } else if found.get_flag("fields") {
-        View::Fields
-    } else if found.get_flag("html") {
-        View::Html {
-            heading: heading_of(found),
-        }
-    } else {
-        View::Text
     }
 }
 

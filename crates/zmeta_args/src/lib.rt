@@ -2,7 +2,10 @@
 #![tactic(auto)]
 
 mod arguments;
+mod asking_forms;
 mod forms;
+mod found;
+mod offline_forms;
 mod options;
 
 pub use arguments::{

@@ -111,14 +111,14 @@ pub(crate) const QUERY: CommandOption = CommandOption {
     value: Some("PQF"),
     is_many: false,
     most_seconds: None,
-    excludes: &["title", "author", "subject", "isbn", "any"],
+    excludes: &["title", "author", "subject", "isbn", "issn", "year", "any"],
     needs: &[],
 };
 
 pub(crate) const TITLE: CommandOption = CommandOption {
     id: "title",
     short: None,
-    help: "Asks every catalogue for this in a title; may be given several times, and all terms must match",
+    help: "Asks every catalogue for this in a title, or what begins so, as dun*; may be given several times, and all terms must match",
     value: Some("TEXT"),
     is_many: true,
     most_seconds: None,
@@ -153,6 +153,28 @@ pub(crate) const ISBN: CommandOption = CommandOption {
     short: None,
     help: "Asks every catalogue for this ISBN; may be given several times",
     value: Some("TEXT"),
+    is_many: true,
+    most_seconds: None,
+    excludes: &[],
+    needs: &[],
+};
+
+pub(crate) const ISSN: CommandOption = CommandOption {
+    id: "issn",
+    short: None,
+    help: "Asks every catalogue for this ISSN; may be given several times",
+    value: Some("TEXT"),
+    is_many: true,
+    most_seconds: None,
+    excludes: &[],
+    needs: &[],
+};
+
+pub(crate) const YEAR: CommandOption = CommandOption {
+    id: "year",
+    short: None,
+    help: "Asks every catalogue for what was published in this year, or in years as 1980-1985, 1980- or -1985",
+    value: Some("YEAR"),
     is_many: true,
     most_seconds: None,
     excludes: &[],

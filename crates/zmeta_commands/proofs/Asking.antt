@@ -5,13 +5,15 @@ use Rattle.std.specs.Borrow.{Bor}
 use Rattle.zmeta_args.specs.declared.arguments.SearchOptions.{SearchOptions}
 use Rattle.zmeta_args.specs.Texts.{now_of}
 use Rattle.zmeta_world.specs.declared.world.World.{World}
-use Rattle.zmeta_commands.specs.Searches.{search_of, terms_of, chosen_query}
+use Rattle.zmeta_searches.specs.Terms.{AskedTerm}
+use Rattle.zmeta_searches.specs.Asked.{terms_of}
+use Rattle.zmeta_searches.specs.Searches.{search_of, chosen_query}
 use Rattle.zmeta_commands.specs.Worlds.{IsTextOf, SearchedResult, told_of}
 use Rattle.zmeta_devices.specs.declared.fault.Fault.{Fault}
 use Rattle.zmeta_devices.specs.declared.fault.Fault.TheVariants.{Read, Line, Query, Wanted, Syntax, Memory}
 
 -- the text of `--query` is that of the search, if it is given
-is_chosen : (text : Option (Bor (List ℕ))) (terms : List (List ℕ × List ℕ))
+is_chosen : (text : Option (Bor (List ℕ))) (terms : List AskedTerm)
     → IsTextOf (chosen_query (now_of text) terms) text
 is_chosen None terms = inl refl
 is_chosen (Some text) terms = inr refl

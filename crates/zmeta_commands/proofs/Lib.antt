@@ -1,5 +1,4 @@
 mod Asking
-pub mod Terms
 pub mod Troubles
 pub mod Running
 pub mod Listing

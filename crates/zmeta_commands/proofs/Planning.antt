@@ -1,5 +1,5 @@
 -- The plan of a world file, and what came of asking its hosts.
-use Rattle.std.proofs.Common.{◌≡◌, subst, ℕ, List, Option, Some, None, Result, Ok, Err, IfSome, inl, inr}
+use Rattle.std.proofs.Common.{◌≡◌, subst, ℕ, List, [], Option, Some, None, Result, Ok, Err, IfSome, inl, inr}
 use Rattle.zmeta_args.specs.declared.arguments.View.{View}
 use Rattle.zmeta_world.specs.Search.{SearchTexts}
 use Rattle.zmeta_world.specs.declared.world.World.{World}

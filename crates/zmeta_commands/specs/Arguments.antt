@@ -19,7 +19,7 @@ use Rattle.zmeta_offline.specs.Pqf.{AfterPqf}
 use Rattle.zmeta_offline.specs.New.{AfterNew}
 use Rattle.zmeta_offline.specs.News.{AfterRecords}
 use Rattle.zmeta_commands.specs.Run.{AfterRun}
-use Rattle.zmeta_commands.specs.Searches.{search_of}
+use Rattle.zmeta_searches.specs.Searches.{search_of}
 use Rattle.zmeta_commands.specs.Serve.{Serves, AfterServe}
 use Rattle.zmeta_offline.specs.Show.{AfterShow}
 use Rattle.zmeta_commands.specs.Dialogue.{AfterDialogue}
@@ -56,8 +56,9 @@ AfterCall Stream serves octets logged relogged Show old new before after status 
 AfterCall Stream serves octets logged relogged (Dialogue trace only) old new before after status =
     (new ≡ old) × (after.input ≡ before.input)
     × AfterDialogue (texts_of only.items) (octets trace.now) trace.now (written before) (written after) status
-AfterCall Stream serves octets logged relogged (Pqf text) old new before after status =
-    (new ≡ old) × (after.input ≡ before.input) × AfterPqf text.now (written before) (written after) status
+AfterCall Stream serves octets logged relogged (Pqf text search) old new before after status =
+    (new ≡ old) × (after.input ≡ before.input)
+    × AfterPqf (now_of text) search (written before) (written after) status
 AfterCall Stream serves octets logged relogged (Join first others saved quiet view) old new before after status =
     (after.input ≡ before.input) × AfterJoinCall view octets (first.now ∷ texts_of others.items) (now_of saved) quiet
     old new (written before) (written after) status

@@ -6,7 +6,6 @@ pub mod Finished
 pub mod Loop
 pub mod Replay
 pub mod Run
-pub mod Searches
 pub mod Serve
 pub mod Stops
 pub mod Traced

@@ -1,5 +1,5 @@
 -- What `replay` prints and reports for a trace, and how it ends.
-use Rattle.std.specs.Prelude.{◌≡◌, ◌⊎◌, ℕ, ◌≤◌, ◌^◌, ◌||◌, Bool, true, false, not, List, length, slice_get, codes, Option, Some, None, Result, Ok, Err, IfSome, IfErr}
+use Rattle.std.specs.Prelude.{◌≡◌, ◌⊎◌, ℕ, ◌≤◌, ◌^◌, ◌||◌, Bool, true, false, not, List, [], length, slice_get, codes, Option, Some, None, Result, Ok, Err, IfSome, IfErr}
 use Rattle.std.specs.Duration.{as_nanos}
 use Rattle.std.specs.Option.{option_map}
 use Rattle.std.specs.Str.{IsUtf8}

@@ -155,7 +155,7 @@ fn call<'a, S: Folder + Doors + Net + Clock, R: Read, W: Write, E: Write, P: Wri
         Arguments::Dialogue { trace, only } => {
             dialogue_named(alloc, system, trace, only.as_slice(), output, errors)
         }
-        Arguments::Pqf { text } => pqf(alloc, text, output, errors),
+        Arguments::Pqf { text, search } => pqf(alloc, text, &search, output, errors),
         Arguments::Join {
             first,
             others,

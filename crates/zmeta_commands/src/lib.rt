@@ -13,7 +13,6 @@ pub mod looped;
 mod progress;
 pub mod replay;
 pub mod run;
-mod searches;
 pub mod serve;
 mod stops;
 mod traced;

@@ -4,7 +4,7 @@ ghost use Rattle.std.specs.Prelude.{IfOk, IfErr, IfSome};
 ghost use Rattle.std.specs.Option.{option_map};
 ghost use Rattle.zmeta_devices.specs.Devices.{outputs};
 ghost use Rattle.zmeta_commands.specs.Finished.{HasNames};
-ghost use Rattle.zmeta_commands.specs.Searches.{search_of};
+ghost use Rattle.zmeta_searches.specs.Searches.{search_of};
 ghost use Rattle.zmeta_commands.specs.Loop.{IsOfNetwork, IsOfLoop, IsListedLoop, LoopFileResult, AfterLoop};
 ghost use Rattle.zmeta_world.specs.InMemoryRuns.{CanBeRun};
 

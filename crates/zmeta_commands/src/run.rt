@@ -10,7 +10,7 @@ ghost use Rattle.zoom.specs.RunRounds.{IsCompleteRun};
 ghost use Rattle.zmeta_devices.specs.Devices.{outputs};
 ghost use Rattle.zmeta_commands.specs.Finished.{HasNames, IsOfSearchedWorld};
 ghost use Rattle.zmeta_world.specs.InMemoryRuns.{CanBeRun};
-ghost use Rattle.zmeta_commands.specs.Searches.{search_of};
+ghost use Rattle.zmeta_searches.specs.Searches.{search_of};
 ghost use Rattle.zmeta_commands.specs.Run.{ReadInMemoryResult, IsCompleteListedRun, RunFileResult, AfterRun};
 
 use crate::finished::{Finished, NAME, Paths, conclude};

@@ -4,11 +4,10 @@ ghost use Rattle.std.specs.Prelude.{◌≡◌, ◌<◌, ◌^◌, length, IfOk, I
 ghost use Rattle.zmeta_world.specs.InMemoryRuns.{IsFit};
 ghost use Rattle.zmeta_commands.specs.Finished.{IsOfFile, IsOfTexts, IsOfWorld, IsOfSearchedWorld};
 ghost use Rattle.zmeta_world.specs.Search.{search_texts};
-ghost use Rattle.zmeta_commands.specs.Searches.{search_of};
+ghost use Rattle.zmeta_searches.specs.Searches.{search_of};
 ghost use Rattle.zmeta_commands.specs.Worlds.{WorldResult, SearchedResult, PlanResult, told_of};
 
 use crate::finished::NAME;
-use crate::searches::copy_search;
 use bytes::Bytes;
 use std::alloc::Global;
 use std::io::Read;
@@ -16,6 +15,7 @@ use zmeta_args::SearchOptions;
 use zmeta_devices::fault::Fault;
 use zmeta_devices::files::{Folder, file_at};
 use zmeta_devices::input::Input;
+use zmeta_searches::copy_search;
 use zmeta_world::network::NetworkRun;
 use zmeta_world::search::Search;
 use zmeta_world::world::{World, read_world};

@@ -1,5 +1,6 @@
--- What `pqf` prints for a text.
-use Rattle.std.specs.Prelude.{◌≡◌, ◌≤◌, ℕ, List, [], ◌∷◌, ◌++◌, Some, Result, Ok, Err, codes}
+-- What `pqf` prints for a text, or for the options of a search.
+use Rattle.std.specs.Prelude.{◌≡◌, ◌≤◌, ℕ, List, [], ◌∷◌, ◌++◌, Option, Some, None, Result, Ok, Err, codes}
+use Rattle.std.specs.Option.{unwrap_or}
 use Rattle.hex.specs.Hex.{encode_lower}
 use Rattle.zber.specs.AsnTags.{context}
 use Rattle.zber.specs.Elements.{Element, cons}
@@ -9,7 +10,9 @@ use Rattle.zquery.specs.Notation.Texts.{IsText, IsTextFault}
 use Rattle.zquery.specs.Notation.Printing.{query_text}
 use Rattle.zquery.specs.Element.Type1.{WritesQuery}
 use Rattle.zquery.specs.Element.Type1Reading.{query_spelling}
+use Rattle.zmeta_args.specs.declared.arguments.SearchOptions.{SearchOptions}
 use Rattle.zmeta_args.specs.Texts.{now_of}
+use Rattle.zmeta_searches.specs.Searches.{search_of}
 use Rattle.zmeta_devices.specs.Faults.{as_done}
 use Rattle.zmeta_devices.specs.Devices.{Device, Outputs, IsUnchanged, HasGained, HasStopped, AfterEnd}
 use Rattle.zmeta_devices.specs.declared.fault.Fault.{Fault}
@@ -49,17 +52,28 @@ PutQueryResult text old new (Err _) = ⊥
 abbrev pub AreLinesOf : List ℕ → List ℕ → Type 0
 AreLinesOf text lines = (q : RpnQuery) × (n : Element) × IsQueryOf text q × IsElementOf q n × (lines ≡ query_lines q n)
 
--- the result of `pqf`, and the stream after it
-abbrev pub PqfResult : List ℕ → Device → Device → Result (Unit {0}) Fault → Type 0
-PqfResult text old new (Ok _) = (lines : List ℕ) × AreLinesOf text lines × HasGained old new lines
-PqfResult text old new (Err (Query kind at told)) =
-    (now_of told ≡ Some text) × IsTextFault text (record { at = at; kind = kind }) × IsUnchanged old new
-PqfResult text old new (Err Memory) = IsUnchanged old new
-PqfResult text old new (Err (Write path)) =
-    (path.now ≡ old.path) × ((lines : List ℕ) × AreLinesOf text lines × HasStopped old new lines)
-PqfResult text old new (Err _) = ⊥
+-- the text of the query: the one that is given, or else that of the options, which is empty if they have none
+abbrev pub queried_text : Option (List ℕ) → SearchOptions → List ℕ
+queried_text (Some text) search = text
+queried_text None search = unwrap_or (search_of search).query []
 
--- the streams and the status after `pqf`
-abbrev pub AfterPqf : List ℕ → Outputs → Outputs → Status → Type 0
-AfterPqf text before after status = (result : Result (Unit {0}) Fault)
-    × PqfResult text before.output after.output result × AfterEnd (as_done result) before.errors after.errors status
+-- the text that a fault of the query speaks of: the one that is given, or else that of `--query`, if there is one
+abbrev pub told_text : Option (List ℕ) → SearchOptions → Option (List ℕ)
+told_text (Some text) search = Some text
+told_text None search = now_of search.query
+
+-- the result of `pqf` for this text of the query, and the stream after it; a fault speaks of the text `known`
+abbrev pub PqfResult : Option (List ℕ) → List ℕ → Device → Device → Result (Unit {0}) Fault → Type 0
+PqfResult known text old new (Ok _) = (lines : List ℕ) × AreLinesOf text lines × HasGained old new lines
+PqfResult known text old new (Err (Query kind at told)) =
+    (now_of told ≡ known) × IsTextFault text (record { at = at; kind = kind }) × IsUnchanged old new
+PqfResult known text old new (Err Memory) = IsUnchanged old new
+PqfResult known text old new (Err (Write path)) =
+    (path.now ≡ old.path) × ((lines : List ℕ) × AreLinesOf text lines × HasStopped old new lines)
+PqfResult known text old new (Err _) = ⊥
+
+-- the streams and the status after `pqf` of this text, or else of these options
+abbrev pub AfterPqf : Option (List ℕ) → SearchOptions → Outputs → Outputs → Status → Type 0
+AfterPqf given search before after status = (result : Result (Unit {0}) Fault)
+    × PqfResult (told_text given search) (queried_text given search) before.output after.output result
+    × AfterEnd (as_done result) before.errors after.errors status

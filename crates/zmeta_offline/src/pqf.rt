@@ -1,50 +1,115 @@
 //! The command `pqf`: a query in the prefix notation, printed with its encoding.
-ghost use Rattle.std.specs.Prelude.{◌≡◌, ℕ, List, ◌++◌, Some, OnOk, IfOk, IfErr};
+ghost use Rattle.std.specs.Prelude.{◌≡◌, ℕ, List, [], ◌++◌, Some, None, OnOk, IfOk, IfErr};
+ghost use Rattle.std.specs.Option.{unwrap_or};
 ghost use Rattle.zber.specs.Elements.{Element};
 ghost use Rattle.zquery.specs.Notation.Printing.{query_text};
 ghost use Rattle.zquery.specs.Element.Type1.{WritesQuery};
 ghost use Rattle.zquery.specs.Element.Type1Reading.{query_spelling};
-ghost use Rattle.zmeta_offline.specs.Pqf.{IsQueryOf, element_text, PutBothResult, PutQueryResult, PqfResult, AfterPqf};
+ghost use Rattle.zmeta_args.specs.Texts.{now_of};
+ghost use Rattle.zmeta_searches.specs.Searches.{copied_texts};
+ghost use Rattle.zmeta_offline.specs.Pqf.{IsQueryOf, element_text, queried_text, told_text, PutBothResult, PutQueryResult, PqfResult, AfterPqf};
 ghost use Rattle.zmeta_devices.specs.Devices.{output_device, outputs};
 
 use std::alloc::{AllocError, Global};
 use std::io::Write;
 use zapdu::put_node;
 use zber::{Node, Tag};
+use zmeta_args::SearchOptions;
 use zmeta_devices::fault::{Fault, Status, end_done};
 use zmeta_devices::output::Output;
+use zmeta_searches::{SearchCopy, copy_search};
 use zquery::laws::{text_printable, text_spellable};
 use zquery::{BuildError, PrintError, Query, parse_pqf, print_pqf, to_node};
 
-/// Prints two lines for the query of a text in the prefix notation: the query, and its encoding in hexadecimal.
+/// Prints two lines for a query in the prefix notation: the query, and its encoding in hexadecimal. The query is that
+/// of the text, or, without a text, that of the options, as `zmeta_searches::copy_search` makes it.
 /// The encoding is the element `[21]` of a SearchRequest, around the element that `zquery::to_node` makes.
 ///
-/// If the text is not a query, prints nothing and writes the reason on `errors`.
-pub fn pqf<W: Write, E: Write>(
+/// If there is no query, prints nothing and writes the reason on `errors`: the text is none, nothing is left of a term
+/// of the options, or they have neither a query nor a term.
+pub fn pqf<'a, 'o: 'a, W: Write, E: Write>(
     alloc: Global,
-    text: &str,
-    output: &mut Output<'_, W>,
+    text: Option<&'a str>,
+    search: &SearchOptions<'a>,
+    output: &mut Output<'o, W>,
     errors: &mut Output<'_, E>,
 ) -> Status
-    ensures { AfterPqf text.now (outputs W.contents E.contents output.old errors.old)
+    ensures { AfterPqf (now_of text.entry) search.now (outputs W.contents E.contents output.old errors.old)
         (outputs W.contents E.contents output.new errors.new) result }
 {
-    let answer = pqf_text(alloc, text, output);
+    let answer = pqf_given(alloc, text, search, output);
     end_done(answer, errors)
 }
 
+/// Prints both lines for a text, or else for the options.
+fn pqf_given<'a, 'o: 'a, W: Write>(
+    alloc: Global,
+    text: Option<&'a str>,
+    search: &SearchOptions<'a>,
+    output: &mut Output<'o, W>,
+) -> Result<(), Fault<'a>>
+    ensures printed { PqfResult (told_text (now_of text.entry) search.now) (queried_text (now_of text.entry) search.now)
+        (output_device W.contents output.old) (output_device W.contents output.new) result }
+{
+    match text {
+        Some(text) => pqf_text(alloc, text, output),
+        None => pqf_options(alloc, search, output),
+    }
+}
+
+/// Prints both lines for a text.
 fn pqf_text<'a, 'o: 'a, W: Write>(
     alloc: Global,
     text: &'a str,
     output: &mut Output<'o, W>,
 ) -> Result<(), Fault<'a>>
-    ensures printed { PqfResult text.entry.now (output_device W.contents output.old)
+    ensures printed { PqfResult (Some text.entry.now) text.entry.now (output_device W.contents output.old)
         (output_device W.contents output.new) result }
 {
     let mut lines = Vec::new(alloc);
     match put_query(alloc, text.as_bytes(), &mut lines) {
         Ok(()) => output.put(lines.as_slice()),
         Err(fault) => Err(fault.of_text(text)),
+    }
+}
+
+/// Prints both lines for the query of the options.
+fn pqf_options<'a, 'o: 'a, W: Write>(
+    alloc: Global,
+    search: &SearchOptions<'a>,
+    output: &mut Output<'o, W>,
+) -> Result<(), Fault<'a>>
+    ensures printed { PqfResult (now_of search.now.query) (queried_text None search.now)
+        (output_device W.contents output.old) (output_device W.contents output.new) result }
+{
+    let mut lines = Vec::new(alloc);
+    match put_asked(alloc, search, &mut lines) {
+        Ok(()) => output.put(lines.as_slice()),
+        Err(fault) => Err(fault.of_options(search)),
+    }
+}
+
+/// Appends both lines for the query of the options.
+fn put_asked(
+    alloc: Global,
+    search: &SearchOptions<'_>,
+    lines: &mut Vec<u8>,
+) -> Result<(), Fault<'static>>
+    ensures { PutQueryResult (queried_text None search.now) lines.old.items lines.new.items result }
+{
+    let copy = copy_search(alloc, search)?;
+    let put = put_query(alloc, query_of(&copy), lines);
+    drop(copy);
+    put
+}
+
+/// Returns the query of a search, or else the empty text, which is no query.
+fn query_of(copy: &SearchCopy) -> &[u8]
+    ensures { result.now ≡ unwrap_or (copied_texts copy.now).query [] }
+{
+    match &copy.query {
+        Some(text) => text.as_slice(),
+        None => b"".as_slice(),
     }
 }
 

@@ -1,5 +1,5 @@
 use Rattle.zmeta_commands.specs.Choice.{choice_texts}
-use Rattle.zmeta_commands.specs.Searches.{search_of}
+use Rattle.zmeta_searches.specs.Searches.{search_of}
 use Rattle.zmeta_commands.specs.Traced.{finished_of}
 use Rattle.zmeta_commands.proofs.Planning.{asked_file}
 use Rattle.zmeta_commands.proofs.ask.ask_file.Goals as goal

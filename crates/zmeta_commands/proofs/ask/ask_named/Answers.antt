@@ -3,7 +3,7 @@ use Rattle.std.specs.Option.{option_map}
 use Rattle.std.specs.Prelude.{ℕ, List}
 use Rattle.zmeta_devices.specs.Devices.{outputs, output_device}
 use Rattle.zmeta_commands.specs.Choice.{choice_texts}
-use Rattle.zmeta_commands.specs.Searches.{search_of}
+use Rattle.zmeta_searches.specs.Searches.{search_of}
 use Rattle.zmeta_commands.proofs.Tracing.{traced_end, untraced_end}
 use Rattle.zmeta_commands.proofs.ask.ask_named.Goals as goal
 

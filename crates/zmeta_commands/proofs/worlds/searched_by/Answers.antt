@@ -1,5 +1,5 @@
 use Rattle.std.proofs.Common.{sym, subst}
-use Rattle.zmeta_commands.specs.Searches.{search_of}
+use Rattle.zmeta_searches.specs.Searches.{search_of}
 use Rattle.zmeta_commands.specs.Worlds.{SearchedResult}
 use Rattle.zmeta_commands.proofs.Asking.{told_as}
 use Rattle.zmeta_commands.proofs.worlds.searched_by.Goals as goal

@@ -1,7 +1,0 @@
-use Rattle.std.proofs.Common.{◌≡◌, ◌++◌, take}
-use Rattle.std.specs.List.{flat_map}
-use Rattle.zmeta_commands.specs.Searches.{escaped}
-use Rattle.zmeta_commands.proofs.searches.put_octets.Given as goal
-
-abbrev pub invariant-loop-octet : goal.invariant-loop-octet
-invariant-loop-octet l = l.text.items ≡ l.fn.text.items ++ flat_map escaped (take l.octet-index l.octets)

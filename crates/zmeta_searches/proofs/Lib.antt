@@ -1,0 +1,4 @@
+mod Blanks
+mod Hyphens
+mod Isbns
+mod Reading

@@ -1,0 +1,6 @@
+pub mod Asked
+pub mod Laws
+pub mod Searches
+pub mod Terms
+pub mod Texts
+pub mod Years
