@@ -1,0 +1,13 @@
+pub mod ForAll
+pub mod SortedLines
+pub mod Prefixes
+pub mod MemberErrors
+pub mod FileErrors
+pub mod AskedTerms
+pub mod OneQuestion
+pub mod Charsets
+pub mod Databases
+pub mod Nearest
+pub mod Others
+pub mod Unknown
+pub mod Asking

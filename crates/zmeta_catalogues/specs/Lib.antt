@@ -1,0 +1,16 @@
+pub mod Keys
+pub mod Words
+pub mod Lines
+pub mod SortedLines
+pub mod Charsets
+pub mod Values
+pub mod Addresses
+pub mod Catalogues
+pub mod Operands
+pub mod Files
+pub mod FileErrors
+pub mod Terms
+pub mod Asked
+pub mod AskErrors
+pub mod Parts
+pub mod Asking
