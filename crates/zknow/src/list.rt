@@ -33,8 +33,8 @@ pub fn put_natural(alloc: Global, number: u32, out: &mut Vec<u8>) -> Result<(), 
     out.extend_from_slice(text.as_bytes())
 }
 
-/// Appends the quoted name of a target, or # and its number if it has no name. Returns `AllocError` if no memory is found;
-/// then some of the text may be appended.
+/// Appends the quoted name of a target, or # and its number if it has no name. Returns `AllocError` if no memory is
+/// found; then some of the text may be appended.
 pub fn put_name(
     alloc: Global,
     names: &Names,

@@ -52,8 +52,8 @@ fn tried_attributes(query: Query) -> Option<Seq<Attr>>
     }
 }
 
-/// Returns the attributes of a query that is the operand which prefixes are tried with, and nothing else. `Prefix` if it
-/// is another query.
+/// Returns the attributes of a query that is the operand which prefixes are tried with, and nothing else. `Prefix` if
+/// it is another query.
 fn attributes_in(key: Key, query: Query) -> Result<Seq<Attr>, Stop>
     ensures ok { IfOk result (λ attrs. query ≡ operand_query attrs) }
     ensures err { IfErr result (IsOtherStop key query) }

@@ -153,8 +153,8 @@ IsFinishedStatus r status = IsStatusOf r.addresses.items r.meta status
 
 -- ---- saving
 
--- the facts were saved in one file if a path is given, and no file was made if none is given; or the file there could not
--- be made, or no memory was found
+-- the facts were saved in one file if a path is given, and no file was made if none is given; or the file there could
+-- not be made, or no memory was found
 abbrev pub SaveResult : Finished → Option (List ℕ) → MadeFiles → MadeFiles → Result (Unit {0}) Fault → Type 0
 SaveResult r None old new (Ok u) = new ≡ old
 SaveResult r None old new (Err f) = ⊥

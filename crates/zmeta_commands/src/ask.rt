@@ -208,8 +208,8 @@ fn chosen_of<'a>(
     )
 }
 
-/// Asks the hosts at the addresses of the chosen questions, and makes the list. `waits` are the waiting times that hosts
-/// have of their own. If it is not empty, no trace is left.
+/// Asks the hosts at the addresses of the chosen questions, and makes the list. `waits` are the waiting times that
+/// hosts have of their own. If it is not empty, no trace is left.
 fn ask_chosen<S: Net + Clock, P: Write + Drop, T: Write + Drop>(
     alloc: Global,
     system: &S,
