@@ -1,6 +1,6 @@
 # bash completion for zmeta
 
-_zmeta_commands='ask replay run loop join new records serve show pqf help'
+_zmeta_commands='ask replay catalogues run loop join new records serve show pqf help'
 _zmeta_syntaxes='marc21 unimarc xml sutrs opac grs1'
 _zmeta_terms='--title --author --subject --isbn --issn --year --any'
 _zmeta_search="$_zmeta_terms --query --records --elements --syntax"
@@ -53,7 +53,7 @@ _zmeta_options() {
         records) options='--new --only --syntax --conflicts --explain' ;;
         show) options='--trace --only --explain' ;;
         pqf) options="$_zmeta_terms --explain" ;;
-        serve) options=--explain ;;
+        serve | catalogues) options=--explain ;;
         *) left= ;;
     esac
     for option in $options; do
@@ -74,7 +74,7 @@ _zmeta_value() {
 # Word $2 of command $1, of which $3 is typed; the first is 0.
 _zmeta_word() {
     case $1.$2 in
-        ask.0 | replay.0 | run.0 | loop.0) _zmeta_files '' "$3" ;;
+        ask.0 | replay.0 | catalogues.0 | run.0 | loop.0) _zmeta_files '' "$3" ;;
         join.* | new.[01] | records.* | serve.2) _zmeta_files '' "$3" ;;
         help.0) _zmeta_choose "$_zmeta_commands" "$3" ;;
     esac

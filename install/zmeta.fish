@@ -61,6 +61,8 @@ end
 complete -c zmeta -f
 complete -c zmeta -n __zmeta_first -a ask -d 'Asks library catalogues'
 complete -c zmeta -n __zmeta_first -a replay -d 'Prints again what ask printed, from its trace'
+complete -c zmeta -n __zmeta_first -a catalogues \
+    -d 'Shows what a file of catalogues says, and every mistake of it'
 complete -c zmeta -n __zmeta_first -a run -d 'Runs searches against catalogues in memory'
 complete -c zmeta -n __zmeta_first -a loop \
     -d 'Runs searches against catalogues in memory, over this machine\'s network'
@@ -72,7 +74,7 @@ complete -c zmeta -n __zmeta_first -a serve -d 'Serves a catalogue in memory to 
 complete -c zmeta -n __zmeta_first -a show -d 'Shows what recorded Z39.50 messages say'
 complete -c zmeta -n __zmeta_first -a pqf -d 'Shows how a query is understood, and how it goes out'
 complete -c zmeta -n __zmeta_first -a help -d 'Print this message or the help of the given subcommand(s)'
-complete -c zmeta -n '__zmeta_at 1 help' -a 'ask replay run loop join new records serve show pqf help'
+complete -c zmeta -n '__zmeta_at 1 help' -a 'ask replay catalogues run loop join new records serve show pqf help'
 
 complete -c zmeta -n 'not __zmeta_in help' -s h -l help -d 'Print help'
 complete -c zmeta -n __zmeta_first -s V -l version -d 'Print version'
@@ -146,10 +148,10 @@ complete -c zmeta -n '__zmeta_in records; and __zmeta_lacks --syntax' -l syntax 
 complete -c zmeta -n '__zmeta_in records; and __zmeta_lacks --conflicts' -l conflicts \
     -d 'Writes all records of a position for which several are known'
 complete -c zmeta -l explain \
-    -n '__zmeta_in ask replay run loop join new records serve show pqf; and __zmeta_lacks --explain' \
+    -n '__zmeta_in ask replay catalogues run loop join new records serve show pqf; and __zmeta_lacks --explain' \
     -d 'Says below each fault, in words, what is wrong and what to write; terminals get that without it'
 
-complete -c zmeta -n '__zmeta_at 1 ask replay run loop join new records' -F
+complete -c zmeta -n '__zmeta_at 1 ask replay catalogues run loop join new records' -F
 complete -c zmeta -n '__zmeta_at 2 new' -F
 complete -c zmeta -n '__zmeta_in join records; and not __zmeta_at 1 join records' -F
 complete -c zmeta -n '__zmeta_at 3 serve' -F

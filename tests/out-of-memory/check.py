@@ -29,6 +29,10 @@ RUNS = [
     (["pqf", "@attr 1=4 dune"], None),
     (["pqf", "@attr 1=4 @and dune @attr 1=1003 herbert"], None),
     (["pqf", "--title", "dun*", "--isbn", "0-441-01359-7", "--year", "1965-1970", "--any", "sand"], None),
+    # what a file of catalogues says, and its mistake; and one that is not asked
+    (["catalogues", "tests/program/files/keyed.toml"], None),
+    (["catalogues", "tests/program/files/curly.toml"], None),
+    (["ask", "--title", " ", "tests/program/files/abbey.toml"], None),
     (["run", "--save", SAVED, "examples/libraries.world"], None),
     # answers that are shorter than what was asked for, and the same with moves
     (["run", "tests/out-of-memory/short.world"], None),

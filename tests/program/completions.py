@@ -7,7 +7,7 @@ import subprocess
 
 HERE = os.path.dirname(os.path.abspath(__file__))
 INSTALL = os.path.join(os.path.dirname(os.path.dirname(HERE)), "install")
-COMMANDS = ("ask", "replay", "run", "loop", "join", "new", "records", "serve", "show", "pqf")
+COMMANDS = ("ask", "replay", "catalogues", "run", "loop", "join", "new", "records", "serve", "show", "pqf")
 # The file and the words come as arguments; what is offered goes out in lines.
 SCRIPT = '. "$1"; COMP_WORDS=("${@:2}"); COMP_CWORD=$(($# - 2)); _zmeta 2> /dev/null; printf "%s\\n" "${COMPREPLY[@]}"'
 

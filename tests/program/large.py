@@ -5,9 +5,9 @@ here alone.
     ZMETA=PROGRAM python3 tests/program/large.py          (all commands)
     ZMETA=PROGRAM python3 tests/program/large.py show     (this one)
 
-`show` reads two million digits. The others have 100,000 records of one catalogue each; `join` prints 200,000 rows, of
-which standard output takes 16 octets at a time, and `new` has that many changes. `gives-up` has a wrong body for each
-command, which its row here finds."""
+`show` reads two million digits, and `catalogues` a file of 10,000. The others have 100,000 records of one catalogue
+each; `join` prints 200,000 rows, of which standard output takes 16 octets at a time, and `new` has that many changes.
+`gives-up` has a wrong body for each command, which its row here finds."""
 
 import os
 import subprocess
@@ -21,6 +21,8 @@ from saved import COUNT, MARC21, SEEN, element, of_facts, record
 # a run has to end within so many seconds
 MOST = 300
 RECORDS = 100_000
+# of a file of catalogues
+TABLES = 10_000
 # of a message for `show`: so many records of so many octets
 SHOWN, SIZE = 80, 12_480
 HERE = os.path.dirname(os.path.abspath(__file__))
@@ -100,6 +102,14 @@ def new(zmeta, room):
     yield run(zmeta, room, ["new", *names]), (0, b"".join(lines), b"")
 
 
+def catalogues(zmeta, room):
+    whole = range(1, TABLES + 1)
+    file = "".join(f'[c{it}]\naddress = "c{it}.example"\ndatabase = "d"\n' for it in whole)
+    lines = "".join(f'{3 * it - 2} "c{it}" c{it}.example:210 "d"\n' for it in whole)
+    name = made(room, "large.toml", file.encode())
+    yield run(zmeta, room, ["catalogues", name]), (0, lines.encode(), b"")
+
+
 def entries():
     return b"".join(b'rec %s "%s"\nfield 4 dune\n' % (MARC21.encode(), octets_of(it)) for it in range(1, RECORDS + 1))
 
@@ -142,8 +152,8 @@ def ask(zmeta, room):
             server.kill()
 
 
-COMMANDS = {"show": show, "pqf": pqf, "join": join, "records": records, "new": new, "run": run_world, "loop": loop,
-            "ask": ask}
+COMMANDS = {"show": show, "pqf": pqf, "catalogues": catalogues, "join": join, "records": records, "new": new,
+            "run": run_world, "loop": loop, "ask": ask}
 
 
 def short(found):

@@ -87,6 +87,10 @@ pub enum Arguments<'a> {
         text: Option<&'a str>,
         search: SearchOptions<'a>,
     },
+    /// Print what a file of catalogues says, and every mistake of it.
+    Catalogues {
+        path: &'a str,
+    },
     /// Print the list of all facts of saved files: the first, and the others. Save the facts if `saved` is a path; with
     /// `quiet`, that alone is done.
     Join {
@@ -384,6 +388,9 @@ fn single_of<'a>(name: &str, found: &ArgMatches<'a>) -> Option<Arguments<'a>>
     ensures asks { IfSome result (AreArgumentsOf name.now (found_of found.now)) }
 {
     match name {
+        "catalogues" => Some(Arguments::Catalogues {
+            path: found.get_str("FILE")?,
+        }),
         "new" => Some(Arguments::New {
             earlier: found.get_str("OLD")?,
             later: found.get_str("NEW")?,

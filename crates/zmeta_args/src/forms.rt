@@ -1,7 +1,7 @@
 //! The forms of the command line: its commands with their arguments and options, and their help.
 
 use crate::asking_forms::{ASK, LOOP, REPLAY, RUN, SERVE};
-use crate::offline_forms::{JOIN, NEW, PQF, RECORDS, SHOW};
+use crate::offline_forms::{CATALOGUES, JOIN, NEW, PQF, RECORDS, SHOW};
 use crate::options::{CommandOption, option};
 use clap::{Arg, ArgAction, Command, value_parser};
 use std::alloc::{AllocError, Global};
@@ -75,7 +75,9 @@ Statuses:
      the socket that listens failed
   4  memory ran out";
 
-const FORMS: [Form; 10] = [ASK, REPLAY, RUN, LOOP, JOIN, NEW, RECORDS, SERVE, SHOW, PQF];
+const FORMS: [Form; 11] = [
+    ASK, REPLAY, CATALOGUES, RUN, LOOP, JOIN, NEW, RECORDS, SERVE, SHOW, PQF,
+];
 
 /// Returns an argument as `clap` takes it.
 fn clap_argument(alloc: Global, wanted: &Argument) -> Result<Arg<'static>, AllocError> {

@@ -119,6 +119,36 @@ Example, the MARC 21 records that a search brought from loc:
     may: &[NEW_SINCE, ONLY_OF, SYNTAX, CONFLICTS, EXPLAIN],
 };
 
+/// The form of `catalogues`.
+pub(crate) const CATALOGUES: Form = Form {
+    name: "catalogues",
+    about: "Shows what a file of catalogues says, and every mistake of it",
+    example: "FILE is a file of catalogues in TOML, as 'zmeta ask' takes it where its name ends
+with .toml: for each catalogue a table under its name, with its address and its
+databases, and what else is to be said of it. Prints a line for each catalogue.
+Of a file with mistakes each gets a line on standard error, with the number of
+its line and what to write, and nothing is printed: status 3.
+
+Example, a file with the lines
+  [loc]
+  address = \"lx2.loc.gov\"
+  database = \"LCDB\"
+is shown by
+  zmeta catalogues catalogues.toml
+as
+  1 \"loc\" lx2.loc.gov:210 \"LCDB\"",
+    wants: &[Argument {
+        id: "FILE",
+        help: "A file of catalogues in TOML",
+        has_hyphen: false,
+        is_count: false,
+        is_many: false,
+        is_needed: true,
+        instead: &[],
+    }],
+    may: &[EXPLAIN],
+};
+
 /// The form of `show`.
 pub(crate) const SHOW: Form = Form {
     name: "show",

@@ -5,6 +5,7 @@ pub mod Listing
 pub mod Stopping
 pub mod Calling
 pub mod Tracing
+pub mod Unions
 pub mod Planning
 pub mod Replaying
 pub mod Showing

@@ -29,7 +29,7 @@ pub put_none : {W : Type 0} (contents : W → Option (List ℕ)) (t : Tracer W) 
 put_none contents t = none_traced contents t
 
 -- an index within the list gives an item, whatever the default is
-in_place : {X : Type 0} (xs : List X) (i : ℕ) (d : X) → i < length xs
+pub in_place : {X : Type 0} (xs : List X) (i : ℕ) (d : X) → i < length xs
     → slice_index_or xs i d ≡ get_or xs i (slice_index_or xs i d)
 in_place [] i d lt = absurd (omega arith)
 in_place (x ∷ xs) zero d lt = refl

@@ -7,11 +7,12 @@ use Rattle.clap.specs.declared.error.kind.ErrorKind.TheVariants as kinds
 use Rattle.zmeta_args.specs.declared.arguments.Arguments.{Arguments}
 use Rattle.zmeta_args.specs.declared.arguments.View.{View}
 use Rattle.zmeta_args.specs.declared.arguments.CommandLine.{CommandLine}
-use Rattle.zmeta_args.specs.declared.arguments.Arguments.TheVariants.{Show, Dialogue, Pqf, Join, New, Records, Run, Ask, Replay, Loop, Serve}
+use Rattle.zmeta_args.specs.declared.arguments.Arguments.TheVariants.{Show, Dialogue, Pqf, Join, New, Records, Run, Ask, Replay, Loop, Serve, Catalogues}
 use Rattle.zmeta_args.specs.Texts.{texts_of, now_of}
 use Rattle.zmeta_args.specs.Arguments.{IsParsed}
 use Rattle.zoom.specs.Limits.{Limits}
 use Rattle.zmeta_commands.specs.Choice.{AreLimits, manner_of}
+use Rattle.zmeta_catalogue_files.specs.Listing.{AfterCatalogues}
 use Rattle.zmeta_offline.specs.Join.{AfterJoin, AfterJoinSaved}
 use Rattle.zmeta_offline.specs.Merged.{AfterMerge}
 use Rattle.zmeta_commands.specs.Loop.{AfterLoop}
@@ -24,7 +25,7 @@ use Rattle.zmeta_commands.specs.Serve.{Serves, AfterServe}
 use Rattle.zmeta_offline.specs.Show.{AfterShow}
 use Rattle.zmeta_commands.specs.Dialogue.{AfterDialogue}
 use Rattle.zmeta_commands.specs.Replay.{AfterReplay}
-use Rattle.zmeta_commands.specs.Traced.{AfterTracedAsk}
+use Rattle.zmeta_commands.specs.CatalogueFiles.{AfterNamedAsk}
 use Rattle.zmeta_devices.specs.Faults.{as_done}
 use Rattle.zmeta_devices.specs.Files.{MadeFiles}
 use Rattle.zmeta_devices.specs.Devices.{Device, Outputs, Streams, written, explaining_streams, IsUnchanged, IsBroken, HasGained, HasStopped, AfterTell, AfterEnd}
@@ -76,8 +77,8 @@ AfterCall Stream serves octets logged relogged (Run world saved search view) old
 AfterCall Stream serves octets logged relogged (Ask world saved trace at_once only options search view) old new
     before after status = (after.input ≡ before.input)
     × ((limits : Limits) × AreLimits options limits
-    × AfterTracedAsk (record { manner = manner_of at_once; only = texts_of only.items; limits = limits })
-    (search_of search) view (now_of trace) logged relogged world.now (now_of saved) (octets world.now) old new
+    × AfterNamedAsk (record { manner = manner_of at_once; only = texts_of only.items; limits = limits })
+    options search view (now_of trace) logged relogged world.now (now_of saved) (octets world.now) old new
     (written before) (written after) status)
 AfterCall Stream serves octets logged relogged (Replay trace saved view) old new before after status =
     (after.input ≡ before.input) × AfterReplay view trace.now (now_of saved) (octets trace.now) old new
@@ -89,6 +90,9 @@ AfterCall Stream serves octets logged relogged (Serve address name world count) 
     (new ≡ old) × (after.input ≡ before.input) × (after.output ≡ before.output)
     × AfterServe serves (record { address = address.now; name = name.now; world = world.now; count = count })
     (octets world.now) before.errors after.errors status
+AfterCall Stream serves octets logged relogged (Catalogues path) old new before after status =
+    (new ≡ old) × (after.input ≡ before.input)
+    × AfterCatalogues path.now (octets path.now) (written before) (written after) status
 
 -- help was asked for
 abbrev pub IsHelp : ErrorKind → Type 0

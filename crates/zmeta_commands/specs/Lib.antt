@@ -1,5 +1,6 @@
 pub mod Arguments
 pub mod Ask
+pub mod CatalogueFiles
 pub mod Choice
 pub mod Dialogue
 pub mod Finished

@@ -1,4 +1,4 @@
-//! The command `ask`: puts the questions of a world file to its hosts.
+//! The command `ask`: puts the questions of a world file to its hosts, or a search to the catalogues of a file.
 
 ghost use Rattle.std.specs.Prelude.{◌≡◌, ◌<◌, ◌^◌, [], length, Ok, Err, IfOk, IfErr, IfSome, MatchResult};
 ghost use Rattle.std.specs.Option.{option_map};
@@ -11,8 +11,10 @@ ghost use Rattle.zmeta_args.specs.Texts.{texts_of};
 ghost use Rattle.zmeta_commands.specs.Choice.{choice_texts, AddressesResult};
 ghost use Rattle.zmeta_searches.specs.Searches.{search_of};
 ghost use Rattle.zmeta_commands.specs.Ask.{CanBeAsked, IsAskedAt, AskNetworkResult, AskFileResult, IsOfAsking};
+ghost use Rattle.zmeta_commands.specs.CatalogueFiles.{AfterNamedAsk};
 ghost use Rattle.zmeta_commands.specs.Traced.{PlannedResult, IsTracedNetwork, IsTracedFile, AfterTracedAsk, finished_of};
 
+use crate::catalogue_files::ask_catalogues;
 use crate::choice::{Choice, addresses_of};
 use crate::finished::{Finished, Paths, conclude};
 use crate::progress::Progress;
@@ -23,7 +25,8 @@ use std::alloc::{AllocError, Global};
 use std::io::Write;
 use std::net::Net;
 use std::time::Clock;
-use zmeta_args::{SearchOptions, View};
+use zmeta_args::{LimitOptions, SearchOptions, View};
+use zmeta_catalogue_files::is_catalogue_file;
 use zmeta_devices::fault::{Fault, Status};
 use zmeta_devices::files::Folder;
 use zmeta_devices::output::Output;
@@ -39,14 +42,20 @@ struct Planned {
 }
 
 /// Finished connections, and the trace of how they were asked, if there is one.
-struct Answered<T> {
-    finished: Finished,
-    trace: Option<Tracer<T>>,
+pub(crate) struct Answered<T> {
+    /// The finished connections.
+    pub finished: Finished,
+    /// The trace.
+    pub trace: Option<Tracer<T>>,
 }
 
-/// Puts each chosen question of a world file to its host over TCP, and prints what is known: as the list, the view
+/// Puts each chosen question of the file at a path to its host over TCP, and prints what is known: as the list, the view
 /// for readers or lines of JSON, as `view` says. The hosts are asked at once or one after the other, as `choice` says.
-/// If `search` has a query, wanted positions, an element set or a syntax, it replaces that of every question.
+///
+/// The file is a world file. If `search` has a query, wanted positions, an element set or a syntax, it replaces that of
+/// every question. Or the path is that of a file of catalogues (`zmeta_catalogue_files::is_catalogue_file`). Then
+/// `search` is put to each catalogue. `given` are the options of which `choice` has the limits; a waiting time that they
+/// do not give is the catalogue's own, if its file has one.
 ///
 /// Writes a line on `errors` for each connection that failed. If `paths` has a path `saved`, then makes one file
 /// there, the saved file of the facts, and returns `Done` or `Failed` only if it holds them all. Makes no other file.
@@ -54,12 +63,43 @@ struct Answered<T> {
 ///
 /// If `trace` is a path, begins a log there once the world file is read, and writes in it, while it asks, what was
 /// given, and each report and action with its time. If that fails, it asks all the same, writes the reason on `errors`
-/// in the end, and returns `Refused`, unless it returns `Memory`.
+/// in the end, and returns `Refused`, unless it returns `Memory`. For a file of catalogues, which no trace can hold, it
+/// reads nothing, writes the reason on `errors` and returns `Refused`, or `Memory`.
 ///
 /// Returns `Refused` if a file or a stream failed, `errors` too. Else returns `Failed` if a search, an association or a
 /// connection failed, a host closed a connection first, or a chosen question was not asked. While it asks, it writes
 /// its progress on `screen`, if there is one.
 pub fn ask_named<'a, 'o: 'a, S: Folder + Net + Clock, W: Write, E: Write, P: Write + Drop>(
+    alloc: Global,
+    system: &mut S,
+    paths: Paths<'a>,
+    trace: Option<&'a str>,
+    choice: Choice<'a, '_>,
+    given: &LimitOptions,
+    search: &SearchOptions<'a>,
+    view: View<'_>,
+    screen: Option<P>,
+    output: &mut Output<'o, W>,
+    errors: &mut Output<'_, E>,
+) -> Status
+    ensures { AfterNamedAsk (choice_texts choice.entry) given.now search.now view.entry
+        (option_map (λ path. path.now) trace.entry) (S.logged system.old) (S.logged system.new) paths.entry.world.now
+        (option_map (λ path. path.now) paths.entry.saved) (S.octets system.old paths.entry.world.now)
+        (S.made system.old) (S.made system.new) (outputs W.contents E.contents output.old errors.old)
+        (outputs W.contents E.contents output.new errors.new) result }
+{
+    if is_catalogue_file(paths.world) {
+        return ask_catalogues(
+            alloc, system, paths, trace, choice, given, search, view, screen, output, errors,
+        );
+    }
+    ask_world(
+        alloc, system, paths, trace, choice, search, view, screen, output, errors,
+    )
+}
+
+/// The same for a world file.
+fn ask_world<'a, 'o: 'a, S: Folder + Net + Clock, W: Write, E: Write, P: Write + Drop>(
     alloc: Global,
     system: &mut S,
     paths: Paths<'a>,
@@ -190,7 +230,7 @@ fn ask_network<'a, S: Folder + Net + Clock, P: Write + Drop>(
 
 /// Returns the address of each chosen question of a plan, and `None` for each other question. `NoQuestion` gives the
 /// first name in `only` that no question has.
-fn chosen_of<'a>(
+pub(crate) fn chosen_of<'a>(
     alloc: Global,
     only: &[&'a str],
     network: &NetworkRun,
@@ -210,7 +250,7 @@ fn chosen_of<'a>(
 
 /// Asks the hosts at the addresses of the chosen questions, and makes the list. `waits` are the waiting times that
 /// hosts have of their own. If it is not empty, no trace is left.
-fn ask_chosen<S: Net + Clock, P: Write + Drop, T: Write + Drop>(
+pub(crate) fn ask_chosen<S: Net + Clock, P: Write + Drop, T: Write + Drop>(
     alloc: Global,
     system: &S,
     network: NetworkRun,

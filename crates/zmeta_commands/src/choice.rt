@@ -46,7 +46,7 @@ pub(crate) fn limits_of(options: &LimitOptions) -> Limits
 }
 
 /// Returns so many seconds.
-fn seconds(count: u32) -> Duration
+pub(crate) fn seconds(count: u32) -> Duration
     ensures { as_nanos result ≡ count * 1000000000 }
 {
     Duration::from_secs(count as u64)

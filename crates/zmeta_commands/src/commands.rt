@@ -20,6 +20,7 @@ use std::io::{ErrorKind, Read, Write};
 use std::net::Net;
 use std::time::Clock;
 use zmeta_args::{Arguments, CommandLine, odd_arguments, parse};
+use zmeta_catalogue_files::catalogues_named;
 use zmeta_devices::fault::{Fault, Status};
 use zmeta_devices::files::Folder;
 use zmeta_devices::input::Input;
@@ -234,7 +235,7 @@ fn call<'a, S: Folder + Doors + Net + Clock, R: Read, W: Write, E: Write, P: Wri
             };
             let paths = Paths { world, saved };
             ask_named(
-                alloc, system, paths, trace, choice, &search, view, screen, output, errors,
+                alloc, system, paths, trace, choice, &limits, &search, view, screen, output, errors,
             )
         }
         Arguments::Loop {
@@ -265,5 +266,6 @@ fn call<'a, S: Folder + Doors + Net + Clock, R: Read, W: Write, E: Write, P: Wri
             };
             serve_named(alloc, system, service, errors)
         }
+        Arguments::Catalogues { path } => catalogues_named(alloc, system, path, output, errors),
     }
 }

@@ -2,6 +2,7 @@
 #![tactic(auto)]
 
 pub mod ask;
+mod catalogue_files;
 pub mod choice;
 pub mod commands;
 mod dialogue;

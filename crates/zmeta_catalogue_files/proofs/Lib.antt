@@ -1,0 +1,5 @@
+mod ErrorLines
+mod Reported
+mod Faults
+mod Listed
+mod Files

@@ -1,0 +1,6 @@
+pub mod Paths
+pub mod Options
+pub mod Unions
+pub mod Refusals
+pub mod Lines
+pub mod Listing

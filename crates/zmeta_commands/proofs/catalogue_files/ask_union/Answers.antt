@@ -1,0 +1,18 @@
+use Rattle.std.proofs.Common.{subst, List}
+use Rattle.zoom.specs.HostWaits.{HostWaits}
+use Rattle.zmeta_commands.specs.Ask.{IsAskedAt}
+use Rattle.zmeta_commands.specs.Choice.{choice_texts}
+use Rattle.zmeta_commands.proofs.Unions.{asked}
+use Rattle.zmeta_commands.proofs.catalogue_files.ask_union.Goals as goal
+
+pub returns-clause-asked : goal.returns-clause-asked
+returns-clause-asked g c =
+    let run = c.in_ok-run.run' in
+    let chosen = c.in-Ok.chosen.items in
+    let choice = choice_texts c.args.choice in
+    let r = c.in_ok-answered.answered.finished in
+    asked choice c.args.given.now c.args.search.now c.args.view
+    (g.S.Folder.octets c.args.system.now c.args.path.now) run chosen r c.in_ok-run.ensures.planned
+    c.in-Ok.ensures
+    (subst (λ (waits : List HostWaits). IsAskedAt choice waits chosen c.args.view run.network r)
+    c.as_slice.ensures.value c.in_ok-answered.ensures.asked)

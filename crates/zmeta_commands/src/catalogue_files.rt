@@ -1,0 +1,240 @@
+//! The command `ask` for a file of catalogues: puts one search to all of them.
+
+ghost use Rattle.std.specs.Prelude.{◌≡◌, IfOk, IfErr, IfSome};
+ghost use Rattle.std.specs.Option.{option_map};
+ghost use Rattle.zmeta_catalogue_files.specs.declared.refusal.UnionFault.TheVariants as unions;
+ghost use Rattle.zmeta_devices.specs.Devices.{output_device, outputs};
+ghost use Rattle.zmeta_commands.specs.Ask.{CanBeAsked};
+ghost use Rattle.zmeta_commands.specs.CatalogueFiles.{own_seconds, IsSpan, IsOwnWait, AreOwnWaits, PlanUnionResult, AskUnionResult, IsOfUnionPlan, IsOfUnionAsk, AfterUnionAsked, trace_line, AfterTraceRefused, AfterUnionAsk};
+ghost use Rattle.zmeta_commands.specs.Choice.{choice_texts};
+ghost use Rattle.zmeta_commands.specs.Finished.{HasNames};
+
+use crate::ask::{Answered, ask_chosen, chosen_of};
+use crate::choice::{Choice, seconds};
+use crate::finished::{Finished, Paths, conclude};
+use crate::worlds::plan;
+use std::alloc::{AllocError, Global};
+use std::io::Write;
+use std::net::Net;
+use std::time::{Clock, Duration};
+use zmeta_args::{LimitOptions, SearchOptions, View};
+use zmeta_catalogue_files::{CatalogueWaits, Union, UnionFault, union_at};
+use zmeta_devices::fault::{Fault, Status};
+use zmeta_devices::files::Folder;
+use zmeta_devices::output::Output;
+use zmeta_world::network::NetworkRun;
+use zoom::{HostWaits, Tracer};
+
+/// The network run of the catalogues of a file, and the waiting times that its hosts have of their own.
+struct UnionRun {
+    network: NetworkRun,
+    waits: Vec<HostWaits>,
+}
+
+/// Puts the search of the options to each catalogue of a file, and prints what is known, as `ask_named` does for a world
+/// file. A catalogue is waited for as an option says; if none does, as its file says; else as `choice` does.
+///
+/// If `trace` is a path, reads nothing, writes the reason on `errors` and returns `Refused`: a trace holds a world file.
+/// `Memory` if no memory is found for that.
+pub(crate) fn ask_catalogues<
+    'a,
+    'o: 'a,
+    S: Folder + Net + Clock,
+    W: Write,
+    E: Write,
+    P: Write + Drop,
+>(
+    alloc: Global,
+    system: &mut S,
+    paths: Paths<'a>,
+    trace: Option<&str>,
+    choice: Choice<'a, '_>,
+    given: &LimitOptions,
+    search: &SearchOptions<'a>,
+    view: View<'_>,
+    screen: Option<P>,
+    output: &mut Output<'o, W>,
+    errors: &mut Output<'_, E>,
+) -> Status
+    ensures { AfterUnionAsk (choice_texts choice.entry) given.now search.now view.entry
+        (option_map (λ path. path.now) trace.entry) (S.logged system.old) (S.logged system.new) paths.entry.world.now
+        (option_map (λ path. path.now) paths.entry.saved) (S.octets system.old paths.entry.world.now)
+        (S.made system.old) (S.made system.new) (outputs W.contents E.contents output.old errors.old)
+        (outputs W.contents E.contents output.new errors.new) result }
+{
+    match trace {
+        Some(_) => refuse_trace(alloc, paths.world, errors),
+        None => {
+            let asked = ask_union(
+                alloc,
+                system,
+                paths.world,
+                choice,
+                given,
+                search,
+                view,
+                screen,
+            );
+            conclude_union(alloc, system, asked, paths, output, errors)
+        }
+    }
+}
+
+/// The seconds that a catalogue has of its own: those that its file says, if no option gives them for all.
+fn own_seconds(given: Option<u32>, said: Option<u32>) -> Option<u32>
+    ensures { result ≡ own_seconds given said }
+{
+    match given {
+        Some(_) => None,
+        None => said,
+    }
+}
+
+/// So many seconds, or none.
+fn span_of(count: Option<u32>) -> Option<Duration>
+    ensures { IsSpan count result }
+{
+    match count {
+        Some(count) => Some(seconds(count)),
+        None => None,
+    }
+}
+
+/// The waiting times that a catalogue has of its own, beside those that the options give for all. Without a time for
+/// connecting, that is its patience.
+fn own_wait(given: &LimitOptions, said: &CatalogueWaits) -> HostWaits
+    ensures { IsOwnWait given.now said.now result }
+{
+    let patience = own_seconds(given.patience, said.patience);
+    let connect = own_seconds(given.connect, said.connect.or(patience));
+    HostWaits {
+        connect: span_of(connect),
+        patience: span_of(patience),
+    }
+}
+
+/// The same of each catalogue, in order.
+fn own_waits(
+    alloc: Global,
+    given: &LimitOptions,
+    said: &[CatalogueWaits],
+) -> Result<Vec<HostWaits>, AllocError>
+    ensures { IfOk result (λ waits. AreOwnWaits given.now said.now waits.items) }
+{
+    let mut waits = Vec::new(alloc);
+    for each in said {
+        waits.push(own_wait(given, each))?;
+    }
+    Ok(waits)
+}
+
+/// Reads the file of catalogues at a path, puts the search to each, and plans a network run of them.
+#[tactic(auto, using(crate::proofs::Unions::refused, crate::proofs::Unions::unplanned, crate::proofs::Unions::no_memory, crate::proofs::Unions::of_union, crate::proofs::Unions::of_plan))]
+fn plan_union<'a, F: Folder>(
+    alloc: Global,
+    files: &F,
+    path: &'a str,
+    given: &LimitOptions,
+    search: &SearchOptions<'a>,
+) -> Result<UnionRun, UnionFault<'a>>
+    ensures planned { IfSome (F.octets files.now path.entry.now)
+        (λ octets. PlanUnionResult given.now search.now octets result) }
+    ensures fit { IfOk result (λ run. CanBeAsked run.network) }
+    ensures path { IfErr result (IsOfUnionPlan path.entry.now) }
+{
+    let union = union_at(alloc, files, path, search)?;
+    let Union { world, waits } = union;
+    let network = match plan(alloc, world) {
+        Ok(network) => network,
+        Err(fault) => return Err(UnionFault::Fault(fault)),
+    };
+    let waits = own_waits(alloc, given, waits.as_slice())?;
+    Ok(UnionRun { network, waits })
+}
+
+/// Asks the chosen catalogues of the file at a path.
+#[tactic(auto, using(crate::proofs::Unions::unasked, crate::proofs::Unions::unchosen, crate::proofs::Unions::no_memory_asked, crate::proofs::Unions::of_planning, crate::proofs::Unions::of_names))]
+fn ask_union<'a, S: Folder + Net + Clock, P: Write + Drop>(
+    alloc: Global,
+    system: &S,
+    path: &'a str,
+    choice: Choice<'a, '_>,
+    given: &LimitOptions,
+    search: &SearchOptions<'a>,
+    view: View<'_>,
+    screen: Option<P>,
+) -> Result<Finished, UnionFault<'a>>
+    ensures asked { IfSome (S.octets system.now path.entry.now) (λ octets. AskUnionResult (choice_texts choice.entry)
+        given.now search.now view.entry octets result) }
+    ensures sound { IfOk result HasNames }
+    ensures path { IfErr result (IsOfUnionAsk path.entry.now) }
+{
+    let run = plan_union(alloc, system, path, given, search)?;
+    let UnionRun { network, waits } = run;
+    let chosen = match chosen_of(alloc, choice.only, &network) {
+        Ok(chosen) => chosen,
+        Err(fault) => return Err(UnionFault::Fault(fault)),
+    };
+    let untraced: Option<Tracer<S::Log>> = None;
+    let answered = ask_chosen(
+        alloc,
+        system,
+        network,
+        chosen,
+        waits.as_slice(),
+        untraced,
+        choice,
+        view,
+        screen,
+    )?;
+    let Answered { finished, trace: _ } = answered;
+    Ok(finished)
+}
+
+/// Ends asking the catalogues of a file with this result: prints the list, reports failed connections and saves the
+/// facts, or reports the fault.
+fn conclude_union<'a, 'o: 'a, F: Folder, W: Write, E: Write>(
+    alloc: Global,
+    files: &mut F,
+    asked: Result<Finished, UnionFault<'a>>,
+    paths: Paths<'a>,
+    output: &mut Output<'o, W>,
+    errors: &mut Output<'_, E>,
+) -> Status
+    requires { IfOk asked HasNames }
+    ensures asked { AfterUnionAsked paths.entry.world.now asked.entry
+        (option_map (λ path. path.now) paths.entry.saved) (F.made files.old) (F.made files.new)
+        (outputs W.contents E.contents output.old errors.old)
+        (outputs W.contents E.contents output.new errors.new) result }
+    ensures logged { F.logged files.new ≡ F.logged files.old }
+{
+    match asked {
+        Ok(finished) => conclude(alloc, files, Ok(finished), paths.saved, output, errors),
+        Err(fault) => fault.report(alloc, paths.world, errors),
+    }
+}
+
+/// Returns the line that refuses a trace of asking the catalogues of the file at a path.
+fn trace_line(alloc: Global, path: &str) -> Result<Vec<u8>, AllocError>
+    ensures { IfOk result (λ line. line.items ≡ trace_line path.now) }
+{
+    let mut line = Vec::new(alloc);
+    line.extend_from_slice(b"zmeta: --trace refused: ")?;
+    line.extend_from_slice(path.as_bytes())?;
+    line.extend_from_slice(b" is a file of catalogues\n")?;
+    Ok(line)
+}
+
+/// Refuses a trace of asking the catalogues of the file at a path.
+fn refuse_trace<E: Write>(alloc: Global, path: &str, errors: &mut Output<'_, E>) -> Status
+    ensures { AfterTraceRefused path.now (output_device E.contents errors.old)
+        (output_device E.contents errors.new) result }
+{
+    match trace_line(alloc, path) {
+        Ok(line) => {
+            errors.put_lines(line.as_slice());
+            Status::Refused
+        }
+        Err(_) => Fault::Memory.report(errors),
+    }
+}
