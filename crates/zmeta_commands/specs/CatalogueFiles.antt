@@ -130,8 +130,9 @@ AfterTraceRefused path old new status =
     (AfterTellLines old new (trace_line path) × (status ≡ statuses.Refused))
     ⊎ (AfterTell old new Memory × (status ≡ statuses.Memory))
 
--- The files made, the streams and the status after `ask` for a file of catalogues. A trace holds a world file, so a path
--- for one is refused, whatever the file is. Else no log is made. `logged` and `relogged` are the logs before and after.
+-- The files made, the streams and the status after `ask` for a file of catalogues. A trace holds a world file, so a
+-- path for one is refused, whatever the file is. Else no log is made. `logged` and `relogged` are the logs before and
+-- after.
 abbrev pub AfterUnionAsk
     : ChoiceTexts → LimitOptions → SearchOptions → View → Option (List ℕ) → MadeFiles → MadeFiles → Command
 AfterUnionAsk choice given options view (Some trace) logged relogged path saved file old new before after status =

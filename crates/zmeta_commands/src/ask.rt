@@ -49,13 +49,14 @@ pub(crate) struct Answered<T> {
     pub trace: Option<Tracer<T>>,
 }
 
-/// Puts each chosen question of the file at a path to its host over TCP, and prints what is known: as the list, the view
-/// for readers or lines of JSON, as `view` says. The hosts are asked at once or one after the other, as `choice` says.
+/// Puts each chosen question of the file at a path to its host over TCP, and prints what is known: as the list, the
+/// view for readers or lines of JSON, as `view` says. The hosts are asked at once or one after the other, as `choice`
+/// says.
 ///
 /// The file is a world file. If `search` has a query, wanted positions, an element set or a syntax, it replaces that of
 /// every question. Or the path is that of a file of catalogues (`zmeta_catalogue_files::is_catalogue_file`). Then
-/// `search` is put to each catalogue. `given` are the options of which `choice` has the limits; a waiting time that they
-/// do not give is the catalogue's own, if its file has one.
+/// `search` is put to each catalogue. `given` are the options of which `choice` has the limits; a waiting time that
+/// they do not give is the catalogue's own, if its file has one.
 ///
 /// Writes a line on `errors` for each connection that failed. If `paths` has a path `saved`, then makes one file
 /// there, the saved file of the facts, and returns `Done` or `Failed` only if it holds them all. Makes no other file.

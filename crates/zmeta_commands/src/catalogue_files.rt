@@ -31,11 +31,11 @@ struct UnionRun {
     waits: Vec<HostWaits>,
 }
 
-/// Puts the search of the options to each catalogue of a file, and prints what is known, as `ask_named` does for a world
-/// file. A catalogue is waited for as an option says; if none does, as its file says; else as `choice` does.
+/// Puts the search of the options to each catalogue of a file, and prints what is known, as `ask_named` does for a
+/// world file. A catalogue is waited for as an option says; if none does, as its file says; else as `choice` does.
 ///
-/// If `trace` is a path, reads nothing, writes the reason on `errors` and returns `Refused`: a trace holds a world file.
-/// `Memory` if no memory is found for that.
+/// If `trace` is a path, reads nothing, writes the reason on `errors` and returns `Refused`: a trace holds a world
+/// file. `Memory` if no memory is found for that.
 pub(crate) fn ask_catalogues<
     'a,
     'o: 'a,
