@@ -32,6 +32,7 @@ RUNS = [
     # what a file of catalogues says, and its mistake; and one that is not asked
     (["catalogues", "tests/program/files/keyed.toml"], None),
     (["catalogues", "tests/program/files/curly.toml"], None),
+    (["catalogues", "tests/program/files/mistaken.toml"], None),
     (["ask", "--title", " ", "tests/program/files/abbey.toml"], None),
     (["run", "--save", SAVED, "examples/libraries.world"], None),
     # answers that are shorter than what was asked for, and the same with moves

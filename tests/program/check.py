@@ -21,6 +21,7 @@ import tempfile
 from concurrent.futures import ThreadPoolExecutor
 
 import changes
+import charsets
 import completions
 import hosts
 import html_pages
@@ -181,6 +182,8 @@ def main():
         found, count = served.faults(ZMETA, room)
         faults += found
         print(f"program: {count} sessions with its server")
+        faults += charsets.faults(ZMETA, room)
+        print(f"program: {len(charsets.VIEWS)} views of records in charsets of a file")
         faults += streams.faults(ZMETA, room)
         print("program: long texts over slow streams")
         faults += stops.faults(ZMETA, room)

@@ -10,6 +10,7 @@ use Rattle.zhtml.specs.Tables.{RowText}
 use Rattle.zhtml.proofs.ReadTheory.{text_reads_back}
 use Rattle.zhtml.proofs.TableTheory.{HasRows, append_has_rows, element_has_rows, void_has_no_rows, style_has_no_rows, rows_are_markup}
 use Rattle.zknow.specs.declared.fact.Fact.{Fact}
+use Rattle.zmarc.specs.declared.charset.Charset.{Charset}
 use Rattle.zknow_stops.specs.declared.stop.Stop.{Stop}
 use Rattle.zknow_titles.specs.Names.{shown_names}
 use Rattle.zknow_html.specs.declared.style.TheConstants.{STYLE, POLICY}
@@ -43,13 +44,14 @@ section_has_rows name heading table rows inside =
     rw (section_parts name heading table) (element_has_rows Section [] refl
     (append_has_rows (said_with_has_no_rows H2 Id name heading refl) (element_has_rows Div (region name) refl inside)))
 
-tables_have_rows : (shown : List (List ℕ)) (stops : List (Option Stop)) (facts : List Fact)
-    → HasRows (tables shown stops facts) (row_texts shown stops facts)
+tables_have_rows : (shown : List (List ℕ)) (charsets : List (Option Charset)) (stops : List (Option Stop))
+    (facts : List Fact)
+    → HasRows (tables shown charsets stops facts) (row_texts shown charsets stops facts)
 unfolding tables
-tables_have_rows shown stops facts =
+tables_have_rows shown charsets stops facts =
     append_has_rows
     (section_has_rows (codes "catalogues") (codes "Catalogues") _ _ (catalogues_have_rows shown stops facts))
-    (section_has_rows (codes "records") (codes "Records") _ _ (records_table_has_rows shown facts))
+    (section_has_rows (codes "records") (codes "Records") _ _ (records_table_has_rows shown charsets facts))
 
 body_has_rows : (heading inside : List ℕ) (rows : List RowText) → HasRows inside rows
     → HasRows (body heading inside) rows
@@ -66,21 +68,24 @@ document_has_rows policy style heading inside rows h =
     (append_has_rows (head_has_no_rows policy style heading) (body_has_rows heading inside rows h))
 
 -- what stands behind what a document begins with
-abbrev inner : List ℕ → List (List ℕ) → List (Option Stop) → List Fact → List ℕ
-inner heading names stops facts = document POLICY.now STYLE.now heading (tables (shown_names names) stops facts)
+abbrev inner : List ℕ → List (List ℕ) → List (Option Charset) → List (Option Stop) → List Fact → List ℕ
+inner heading names charsets stops facts =
+    document POLICY.now STYLE.now heading (tables (shown_names names) charsets stops facts)
 
-inner_has_rows : (heading : List ℕ) (names : List (List ℕ)) (stops : List (Option Stop)) (facts : List Fact)
-    → HasRows (inner heading names stops facts) (row_texts (shown_names names) stops facts)
-inner_has_rows heading names stops facts =
-    document_has_rows POLICY.now STYLE.now heading _ _ (tables_have_rows (shown_names names) stops facts)
+inner_has_rows : (heading : List ℕ) (names : List (List ℕ)) (charsets : List (Option Charset))
+    (stops : List (Option Stop)) (facts : List Fact)
+    → HasRows (inner heading names charsets stops facts) (row_texts (shown_names names) charsets stops facts)
+inner_has_rows heading names charsets stops facts =
+    document_has_rows POLICY.now STYLE.now heading _ _ (tables_have_rows (shown_names names) charsets stops facts)
 
-pub page_is_document : (heading : List ℕ) (names : List (List ℕ)) (stops : List (Option Stop)) (facts : List Fact)
-    → IsDocument (page heading names stops facts)
+pub page_is_document : (heading : List ℕ) (names : List (List ℕ)) (charsets : List (Option Charset))
+    (stops : List (Option Stop)) (facts : List Fact)
+    → IsDocument (page heading names charsets stops facts)
 unfolding page
-page_is_document heading names stops facts = record {
-  inside = inner heading names stops facts;
+page_is_document heading names charsets stops facts = record {
+  inside = inner heading names charsets stops facts;
   made = refl;
-  markup = rows_are_markup (inner_has_rows heading names stops facts);
+  markup = rows_are_markup (inner_has_rows heading names charsets stops facts);
 }
 
 rows_read_back : (octets inside : List ℕ) (rows : List RowText) → doctype ++ inside ≡ octets → HasRows inside rows
@@ -93,11 +98,13 @@ rows_read_back octets inside rows begun it = record {
   rows_are = it.same;
 }
 
-pub page_has_rows : (heading : List ℕ) (names : List (List ℕ)) (stops : List (Option Stop)) (facts : List Fact)
-    → HasRowTexts (page heading names stops facts) (row_texts (shown_names names) stops facts)
+pub page_has_rows : (heading : List ℕ) (names : List (List ℕ)) (charsets : List (Option Charset))
+    (stops : List (Option Stop)) (facts : List Fact)
+    → HasRowTexts (page heading names charsets stops facts) (row_texts (shown_names names) charsets stops facts)
 unfolding page
-page_has_rows heading names stops facts =
-    rows_read_back _ (inner heading names stops facts) _ refl (inner_has_rows heading names stops facts)
+page_has_rows heading names charsets stops facts =
+    rows_read_back _ (inner heading names charsets stops facts) _ refl
+    (inner_has_rows heading names charsets stops facts)
 
 -- ---- the page of changes
 
@@ -106,9 +113,9 @@ change_tables_have_rows : (earlier later : List (List ℕ)) (new changed gone : 
 unfolding change_tables
 change_tables_have_rows earlier later new changed gone =
     append_has_rows
-    (append_has_rows (section_has_rows (codes "new") (codes "New") _ _ (records_table_has_rows later new))
-    (section_has_rows (codes "changed") (codes "Changed") _ _ (records_table_has_rows later changed)))
-    (section_has_rows (codes "gone") (codes "Gone") _ _ (records_table_has_rows earlier gone))
+    (append_has_rows (section_has_rows (codes "new") (codes "New") _ _ (records_table_has_rows later [] new))
+    (section_has_rows (codes "changed") (codes "Changed") _ _ (records_table_has_rows later [] changed)))
+    (section_has_rows (codes "gone") (codes "Gone") _ _ (records_table_has_rows earlier [] gone))
 
 -- what stands behind what a document begins with
 abbrev changes_inner : List ℕ → List (List ℕ) → List (List ℕ) → List Fact → List Fact → List Fact → List ℕ

@@ -10,7 +10,8 @@ use Rattle.zhtml.proofs.TableTheory.{HasText, nothing_has_text, append_has_text,
 use Rattle.zknow.specs.declared.fact.Fact.{Fact}
 use Rattle.zknow.specs.declared.tables.keys.RowKey.{RowKey}
 use Rattle.zknow.specs.declared.tables.keys.SetKey.{SetKey}
-use Rattle.zknow.specs.Known.{counts_at, records_at, is_failed_at, diags_at}
+use Rattle.zknow.specs.Known.{counts_at, is_failed_at, diags_at}
+use Rattle.zmarc.specs.declared.charset.Charset.{Charset}
 use Rattle.zknow_stops.specs.declared.stop.Stop.{Stop}
 use Rattle.zknow_titles.specs.Blocks.{shown_count}
 use Rattle.zknow_titles.specs.Heads.{stop_words}
@@ -18,9 +19,8 @@ use Rattle.zknow_titles.specs.Names.{name_or_number, label}
 use Rattle.zknow_titles.specs.Titles.{sets_of, rows_of}
 use Rattle.zknow_html.specs.declared.differences.Differences.{Differences}
 use Rattle.zknow_html.specs.Catalogues.{found_text, refused_count, missing_text, share_text, meter, share, share_cell, reasons, number_cells, known_row, set_row, empty_cells, stop_row, stop_rows, stops_from, count_columns, catalogue_columns, catalogue_table}
-use Rattle.zknow_html.specs.Descriptions.{description_of}
 use Rattle.zknow_html.specs.Differences.{DescriptionTexts, no_differences, differences}
-use Rattle.zknow_html.specs.Records.{name_cell, title_cell, description_cells, record_row, one_of, differing_rows, described_rows, position_rows, room_behind, rows_from, place_columns, field_columns, record_columns, record_table}
+use Rattle.zknow_html.specs.Records.{name_cell, title_cell, description_cells, record_row, one_of, differing_rows, described_rows, descriptions_at, position_rows, room_behind, rows_from, place_columns, field_columns, record_columns, record_table}
 use Rattle.zknow_html.specs.Rows.{share_words, number_texts, known_text, set_text, stop_text, stop_texts, stop_texts_from, mark_text, hidden_text, description_texts, record_text, differing_texts, described_texts, position_texts, catalogue_texts}
 use Rattle.zknow_html.proofs.CellTheory.{catalogue_is_visible, stopped_is_visible, record_is_visible, differs_is_visible, mark_has_text, hidden_has_text, cell_has_cell, text_has_cell, list_has_cell, compared_has_cell, compared_text_has_cell, compared_list_has_cell, row_header_has_cell, row_has, column_has_no_rows, block, block_has_rows, rows_follow, table_has_rows}
 
@@ -157,20 +157,24 @@ described_have_rows shown k (d ∷ []) =
 described_have_rows shown k (d ∷ e ∷ rest) =
     differing_have_rows shown k (differences d (e ∷ rest)) (d ∷ e ∷ rest)
 
-position_has_rows : (shown : List (List ℕ)) (facts : List Fact) (k : RowKey)
-    → HasRows (position_rows shown facts k) (position_texts shown facts k)
-position_has_rows shown facts k =
-    described_have_rows shown k (map description_of (records_at k.target k.set k.position facts))
+position_has_rows : (shown : List (List ℕ)) (charsets : List (Option Charset)) (facts : List Fact) (k : RowKey)
+    → HasRows (position_rows shown charsets facts k) (position_texts shown charsets facts k)
+position_has_rows shown charsets facts k =
+    described_have_rows shown k (descriptions_at charsets facts k)
 
 -- a block, and those behind it
-blocks_have_rows : (shown : List (List ℕ)) (facts : List Fact) (rows : List RowKey) (room : ℕ) (before : List ℕ)
+blocks_have_rows : (shown : List (List ℕ)) (charsets : List (Option Charset)) (facts : List Fact) (rows : List RowKey)
+    (room : ℕ) (before : List ℕ)
     (texts : List RowText) → HasRows before texts
-    → HasRows (block (before ++ rows_from shown facts room rows)) (texts ++ flat_map (position_texts shown facts) rows)
-blocks_have_rows shown facts [] room before texts first = block_has_rows (append_has_rows first nothing_has_rows)
-blocks_have_rows shown facts (k ∷ rows) room before texts first =
-    rows_follow (eqb room 0) before (position_rows shown facts k) (rows_from shown facts (room_behind room) rows) texts
-    (position_texts shown facts k) (flat_map (position_texts shown facts) rows) first (position_has_rows shown facts k)
-    (blocks_have_rows shown facts rows (room_behind room))
+    → HasRows (block (before ++ rows_from shown charsets facts room rows))
+    (texts ++ flat_map (position_texts shown charsets facts) rows)
+blocks_have_rows shown charsets facts [] room before texts first =
+    block_has_rows (append_has_rows first nothing_has_rows)
+blocks_have_rows shown charsets facts (k ∷ rows) room before texts first =
+    rows_follow (eqb room 0) before (position_rows shown charsets facts k)
+    (rows_from shown charsets facts (room_behind room) rows) texts (position_texts shown charsets facts k)
+    (flat_map (position_texts shown charsets facts) rows) first (position_has_rows shown charsets facts k)
+    (blocks_have_rows shown charsets facts rows (room_behind room))
 
 record_columns_have_no_rows : HasRows record_columns []
 unfolding record_columns place_columns field_columns
@@ -180,8 +184,9 @@ record_columns_have_no_rows =
     (column_has_no_rows (codes "Title"))) (column_has_no_rows (codes "Author"))) (column_has_no_rows (codes "ISBN")))
     (column_has_no_rows (codes "Copies")))
 
-pub records_table_has_rows : (shown : List (List ℕ)) (facts : List Fact)
-    → HasRows (record_table shown facts (rows_of facts)) (flat_map (position_texts shown facts) (rows_of facts))
-records_table_has_rows shown facts =
+pub records_table_has_rows : (shown : List (List ℕ)) (charsets : List (Option Charset)) (facts : List Fact)
+    → HasRows (record_table shown charsets facts (rows_of facts))
+    (flat_map (position_texts shown charsets facts) (rows_of facts))
+records_table_has_rows shown charsets facts =
     table_has_rows record_columns _ _ record_columns_have_no_rows
-    (blocks_have_rows shown facts (rows_of facts) 50 [] [] nothing_has_rows)
+    (blocks_have_rows shown charsets facts (rows_of facts) 50 [] [] nothing_has_rows)

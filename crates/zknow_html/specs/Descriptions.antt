@@ -1,6 +1,7 @@
 -- What is shown of a record: the texts of its cells, and the lines of all its fields.
 use Rattle.std.specs.Prelude.{ℕ, Option, List}
 use Rattle.zapdu.specs.declared.productions.record.Record.{Record}
+use Rattle.zmarc.specs.declared.charset.Charset.{Charset}
 use Rattle.zopac.specs.declared.opac.OpacRecord.{OpacRecord}
 use Rattle.zknow_titles.specs.Entries.{EntryText, entry_with, opac_of, copies_of}
 use Rattle.zknow_titles.specs.Wholes.{lines_with}
@@ -19,9 +20,10 @@ described e fields copies lines = record {
 }
 
 -- of a record, which is one with its copies or none; its lines are those of the view of whole records
-abbrev pub description_with : Record → Option OpacRecord → DescriptionTexts
-description_with r o = described (entry_with r o) (fields_with r.body o) (copies_of o) (lines_with r o)
+abbrev pub description_with : Option Charset → Record → Option OpacRecord → DescriptionTexts
+description_with charset r o =
+    described (entry_with charset r o) (fields_with charset r.body o) (copies_of o) (lines_with charset r o)
 
--- of a record
-abbrev pub description_of : Record → DescriptionTexts
-description_of r = description_with r (opac_of r)
+-- of a record; the character set of the target's records may be known
+abbrev pub description_of : Option Charset → Record → DescriptionTexts
+description_of charset r = description_with charset r (opac_of r)

@@ -1,5 +1,5 @@
--- Both pages are documents of the small HTML, whatever the heading, the names, the stops and the facts are; and read
--- back they have each row once.
+-- Both pages are documents of the small HTML, whatever the heading, the names, the character sets, the stops and the
+-- facts are; and read back they have each row once.
 use Rattle.std.specs.Prelude.{◌≡◌, ℕ, Option, Some, List, ◌++◌}
 use Rattle.zhtml.specs.Laws.{IsMarkup}
 use Rattle.zhtml.specs.Markup.{doctype}
@@ -7,6 +7,7 @@ use Rattle.zhtml.specs.Reader.{read}
 use Rattle.zhtml.specs.Tables.{RowText, rows_in}
 use Rattle.zhtml.specs.Trees.{Nodes}
 use Rattle.zknow.specs.declared.fact.Fact.{Fact}
+use Rattle.zmarc.specs.declared.charset.Charset.{Charset}
 use Rattle.zknow_stops.specs.declared.stop.Stop.{Stop}
 use Rattle.zknow_titles.specs.Names.{shown_names}
 use Rattle.zknow_html.specs.Page.{page, change_page}
@@ -18,11 +19,12 @@ pub record IsDocument (octets : List ℕ) : Type 0 where
   pub made : doctype ++ inside ≡ octets
   pub markup : IsMarkup inside
 
--- whatever the heading, the names, the stops and the facts are
+-- whatever the heading, the names, the character sets, the stops and the facts are
 abbrev pub PageLaw : Type 0
 PageLaw =
-    (heading : List ℕ) (names : List (List ℕ)) (stops : List (Option Stop)) (facts : List Fact)
-    → IsDocument (page heading names stops facts)
+    (heading : List ℕ) (names : List (List ℕ)) (charsets : List (Option Charset)) (stops : List (Option Stop))
+    (facts : List Fact)
+    → IsDocument (page heading names charsets stops facts)
 
 -- whatever the heading, the names and the facts are
 abbrev pub ChangePageLaw : Type 0
@@ -41,11 +43,12 @@ pub record HasRowTexts (octets : List ℕ) (rows : List RowText) : Type 0 where
   pub read_back : read inside ≡ Some tree
   pub rows_are : rows_in tree ≡ rows
 
--- the rows of the page, whatever the heading, the names, the stops and the facts are
+-- the rows of the page, whatever the heading, the names, the character sets, the stops and the facts are
 abbrev pub RowsLaw : Type 0
 RowsLaw =
-    (heading : List ℕ) (names : List (List ℕ)) (stops : List (Option Stop)) (facts : List Fact)
-    → HasRowTexts (page heading names stops facts) (row_texts (shown_names names) stops facts)
+    (heading : List ℕ) (names : List (List ℕ)) (charsets : List (Option Charset)) (stops : List (Option Stop))
+    (facts : List Fact)
+    → HasRowTexts (page heading names charsets stops facts) (row_texts (shown_names names) charsets stops facts)
 
 -- the rows of the page of changes, whatever the heading, the names and the facts are
 abbrev pub ChangeRowsLaw : Type 0

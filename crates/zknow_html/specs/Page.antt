@@ -1,6 +1,7 @@
--- The page, as a function of its heading, the names, the stops and the facts.
+-- The page, as a function of its heading, the names, the character sets, the stops and the facts.
 use Rattle.std.specs.Prelude.{ℕ, Option, List, [], ◌∷◌, ◌++◌, codes}
 use Rattle.zknow.specs.declared.fact.Fact.{Fact}
+use Rattle.zmarc.specs.declared.charset.Charset as sets
 use Rattle.zknow_stops.specs.declared.stop.Stop.{Stop}
 use Rattle.zknow_titles.specs.Names.{shown_names}
 use Rattle.zknow_titles.specs.Titles.{sets_of, rows_of}
@@ -65,16 +66,16 @@ catalogues_part shown stops facts =
     section (codes "catalogues") (codes "Catalogues") (catalogue_table shown stops facts (sets_of facts))
 
 -- a part with records, by position, target and set
-abbrev pub part_with : List ℕ → List ℕ → List (List ℕ) → List Fact → List ℕ
-part_with name heading shown facts = section name heading (record_table shown facts (rows_of facts))
+abbrev pub part_with : List ℕ → List ℕ → List (List ℕ) → List (Option sets.Charset) → List Fact → List ℕ
+part_with name heading shown charsets facts = section name heading (record_table shown charsets facts (rows_of facts))
 
 -- the records
-abbrev pub records_part : List (List ℕ) → List Fact → List ℕ
-records_part shown facts = part_with (codes "records") (codes "Records") shown facts
+abbrev pub records_part : List (List ℕ) → List (Option sets.Charset) → List Fact → List ℕ
+records_part shown charsets facts = part_with (codes "records") (codes "Records") shown charsets facts
 
 -- both
-unfoldable pub tables : List (List ℕ) → List (Option Stop) → List Fact → List ℕ
-tables shown stops facts = catalogues_part shown stops facts ++ records_part shown facts
+unfoldable pub tables : List (List ℕ) → List (Option sets.Charset) → List (Option Stop) → List Fact → List ℕ
+tables shown charsets stops facts = catalogues_part shown stops facts ++ records_part shown charsets facts
 
 -- what is shown
 unfoldable pub body : List ℕ → List ℕ → List ℕ
@@ -86,18 +87,19 @@ document policy style heading shown_tables =
     element Html (only Lang (codes "en")) (head policy style heading ++ body heading shown_tables)
 
 -- the page
-unfoldable pub page : List ℕ → List (List ℕ) → List (Option Stop) → List Fact → List ℕ
-page heading names stops facts =
-    doctype ++ document POLICY.now STYLE.now heading (tables (shown_names names) stops facts)
+unfoldable pub page
+    : List ℕ → List (List ℕ) → List (Option sets.Charset) → List (Option Stop) → List Fact → List ℕ
+page heading names charsets stops facts =
+    doctype ++ document POLICY.now STYLE.now heading (tables (shown_names names) charsets stops facts)
 
 -- ---- the page of changes
 
 -- the records that are new and those that changed, with the names of the later file, and those that are gone, with the
--- names of the earlier one
+-- names of the earlier one; no character set is known of them
 unfoldable pub change_tables : List (List ℕ) → List (List ℕ) → List Fact → List Fact → List Fact → List ℕ
 change_tables earlier later new changed gone =
-    part_with (codes "new") (codes "New") later new ++ part_with (codes "changed") (codes "Changed") later changed
-    ++ part_with (codes "gone") (codes "Gone") earlier gone
+    part_with (codes "new") (codes "New") later [] new ++ part_with (codes "changed") (codes "Changed") later [] changed
+    ++ part_with (codes "gone") (codes "Gone") earlier [] gone
 
 -- the page
 unfoldable pub change_page

@@ -1,5 +1,5 @@
 -- The table of records: position, catalogue, year, title with all fields behind it, author, ISBN, copies.
-use Rattle.std.specs.Prelude.{ℕ, ◌-◌, ◌==◌, Bool, if◌then◌else◌, List, [], ◌∷◌, ◌++◌, codes, length, map}
+use Rattle.std.specs.Prelude.{ℕ, ◌-◌, ◌==◌, Bool, if◌then◌else◌, List, [], ◌∷◌, ◌++◌, codes, length, map, Option}
 use Rattle.std.specs.Fmt.{decimal, signed_decimal}
 use Rattle.std.specs.List.{flat_map}
 use Rattle.zknow.specs.declared.fact.Fact.{Fact}
@@ -7,6 +7,8 @@ use Rattle.zknow.specs.declared.tables.keys.RowKey.{RowKey}
 use Rattle.zknow.specs.Known.{records_at}
 use Rattle.zknow_titles.specs.Blocks.{behind_colon}
 use Rattle.zknow_titles.specs.Names.{label}
+use Rattle.zmarc.specs.declared.charset.Charset.{Charset}
+use Rattle.zmarc.specs.Charsets.{charset_at}
 use Rattle.zhtml.specs.Texts.{text}
 use Rattle.zknow_html.specs.declared.differences.Differences.{Differences}
 use Rattle.zknow_html.specs.Cells.{column, cell, text_cell, compared_cell, compared_text, compared_list, mark, hidden, row, block_end, table}
@@ -54,10 +56,14 @@ described_rows shown k [] = []
 described_rows shown k (d ∷ []) = record_row (codes "record") [] no_differences shown k d
 described_rows shown k (d ∷ e ∷ rest) = differing_rows shown k (differences d (e ∷ rest)) (d ∷ e ∷ rest)
 
+-- what is shown of each record at a position of a set, in the character set of its target
+abbrev pub descriptions_at : List (Option Charset) → List Fact → RowKey → List DescriptionTexts
+descriptions_at charsets facts k =
+    map (description_of (charset_at charsets k.target)) (records_at k.target k.set k.position facts)
+
 -- the rows of a position of a set
-abbrev pub position_rows : List (List ℕ) → List Fact → RowKey → List ℕ
-position_rows shown facts k =
-    described_rows shown k (map description_of (records_at k.target k.set k.position facts))
+abbrev pub position_rows : List (List ℕ) → List (Option Charset) → List Fact → RowKey → List ℕ
+position_rows shown charsets facts k = described_rows shown k (descriptions_at charsets facts k)
 
 -- ---- blocks of rows: what a browser lays out together
 
@@ -70,10 +76,10 @@ abbrev pub room_behind : ℕ → ℕ
 room_behind room = (if room == 0 then 50 else room) - 1
 
 -- the rows of each position, from one on
-abbrev pub rows_from : List (List ℕ) → List Fact → ℕ → List RowKey → List ℕ
-rows_from shown facts room [] = []
-rows_from shown facts room (k ∷ rows) =
-    block_break room ++ position_rows shown facts k ++ rows_from shown facts (room_behind room) rows
+abbrev pub rows_from : List (List ℕ) → List (Option Charset) → List Fact → ℕ → List RowKey → List ℕ
+rows_from shown charsets facts room [] = []
+rows_from shown charsets facts room (k ∷ rows) =
+    block_break room ++ position_rows shown charsets facts k ++ rows_from shown charsets facts (room_behind room) rows
 
 -- ---- the table
 
@@ -92,5 +98,5 @@ unfoldable pub record_columns : List ℕ
 record_columns = place_columns ++ field_columns
 
 -- the table of these rows
-abbrev pub record_table : List (List ℕ) → List Fact → List RowKey → List ℕ
-record_table shown facts rows = table record_columns (rows_from shown facts 50 rows)
+abbrev pub record_table : List (List ℕ) → List (Option Charset) → List Fact → List RowKey → List ℕ
+record_table shown charsets facts rows = table record_columns (rows_from shown charsets facts 50 rows)

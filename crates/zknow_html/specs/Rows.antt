@@ -8,7 +8,8 @@ use Rattle.zhtml.specs.Texts.{visible}
 use Rattle.zknow.specs.declared.fact.Fact.{Fact}
 use Rattle.zknow.specs.declared.tables.keys.RowKey.{RowKey}
 use Rattle.zknow.specs.declared.tables.keys.SetKey.{SetKey}
-use Rattle.zknow.specs.Known.{counts_at, records_at, is_failed_at, diags_at}
+use Rattle.zknow.specs.Known.{counts_at, is_failed_at, diags_at}
+use Rattle.zmarc.specs.declared.charset.Charset.{Charset}
 use Rattle.zknow_stops.specs.declared.stop.Stop.{Stop}
 use Rattle.zknow_titles.specs.Blocks.{shown_count}
 use Rattle.zknow_titles.specs.Heads.{stop_words}
@@ -16,9 +17,8 @@ use Rattle.zknow_titles.specs.Names.{name_or_number, label}
 use Rattle.zknow_titles.specs.Titles.{sets_of, rows_of}
 use Rattle.zknow_html.specs.declared.differences.Differences.{Differences}
 use Rattle.zknow_html.specs.Catalogues.{found_text, refused_count, missing_text, share_text, reasons}
-use Rattle.zknow_html.specs.Descriptions.{description_of}
 use Rattle.zknow_html.specs.Differences.{DescriptionTexts, differences}
-use Rattle.zknow_html.specs.Records.{one_of}
+use Rattle.zknow_html.specs.Records.{one_of, descriptions_at}
 
 -- ---- catalogues
 
@@ -103,9 +103,8 @@ described_texts shown k (d ∷ []) = record_text (codes "record") [] shown k d �
 described_texts shown k (d ∷ e ∷ rest) = differing_texts shown k (differences d (e ∷ rest)) (d ∷ e ∷ rest)
 
 -- the records at a position of a set
-abbrev pub position_texts : List (List ℕ) → List Fact → RowKey → List RowText
-position_texts shown facts k =
-    described_texts shown k (map description_of (records_at k.target k.set k.position facts))
+abbrev pub position_texts : List (List ℕ) → List (Option Charset) → List Fact → RowKey → List RowText
+position_texts shown charsets facts k = described_texts shown k (descriptions_at charsets facts k)
 
 -- ---- the page
 
@@ -115,13 +114,15 @@ catalogue_texts shown stops facts = map (set_text shown facts) (sets_of facts) +
 
 -- The rows of the page: a row for each set that has a line in the view of `zknow_titles`, one for each catalogue that
 -- stopped, and one for each record in the rows of that view.
-abbrev pub row_texts : List (List ℕ) → List (Option Stop) → List Fact → List RowText
-row_texts shown stops facts = catalogue_texts shown stops facts ++ flat_map (position_texts shown facts) (rows_of facts)
+abbrev pub row_texts : List (List ℕ) → List (Option Charset) → List (Option Stop) → List Fact → List RowText
+row_texts shown charsets stops facts =
+    catalogue_texts shown stops facts ++ flat_map (position_texts shown charsets facts) (rows_of facts)
 
 -- ---- the page of changes
 
--- The rows of the page of changes: one for each record that is new, changed and gone.
+-- The rows of the page of changes: one for each record that is new, changed and gone. No character set is known of
+-- them.
 abbrev pub change_texts : List (List ℕ) → List (List ℕ) → List Fact → List Fact → List Fact → List RowText
 change_texts earlier later new changed gone =
-    flat_map (position_texts later new) (rows_of new) ++ flat_map (position_texts later changed) (rows_of changed)
-    ++ flat_map (position_texts earlier gone) (rows_of gone)
+    flat_map (position_texts later [] new) (rows_of new) ++ flat_map (position_texts later [] changed) (rows_of changed)
+    ++ flat_map (position_texts earlier [] gone) (rows_of gone)

@@ -37,9 +37,9 @@ fn put_tables(
         ++ change_tables (map string_bytes earlier.now) (map string_bytes later.now) p.fresh.now p.changed.now
         p.gone.now) }
 {
-    put_part_with(alloc, "new", "New", later, parts.fresh, out)?;
-    put_part_with(alloc, "changed", "Changed", later, parts.changed, out)?;
-    put_part_with(alloc, "gone", "Gone", earlier, parts.gone, out)
+    put_part_with(alloc, "new", "New", later, &[], parts.fresh, out)?;
+    put_part_with(alloc, "changed", "Changed", later, &[], parts.changed, out)?;
+    put_part_with(alloc, "gone", "Gone", earlier, &[], parts.gone, out)
 }
 
 /// Appends what is shown.
@@ -96,7 +96,7 @@ fn view(
 
 /// Appends a page of what changed between two saved files. Under `heading` it has three tables of records, as that of
 /// `print_html`: those that are new, those that changed and those that are gone. `earlier` and `later` are the names of
-/// the two files; what is gone stands in the earlier one.
+/// the two files; what is gone stands in the earlier one. No character set is known of their records.
 ///
 /// Read back, the page has a row for each record, in this order and each once. Whatever the heading, the names and the
 /// records are, it is a document of the small HTML: their texts are no markup in it. It has no script, and loads

@@ -10,6 +10,7 @@ use crate::fields::{Fields, fields_with};
 use std::alloc::{AllocError, Global};
 use zapdu::Record;
 use zknow_titles::{Entry, entry_with, lines_with, opac_of};
+use zmarc::Charset;
 use zopac::{Holding, OpacRecord, put_holding};
 
 /// Returns the line of each copy.
@@ -62,28 +63,33 @@ fn describe_with(
     }
 }
 
-/// Returns what is shown of a record.
-fn describe(alloc: Global, record: &Record) -> Result<Description, AllocError>
-    ensures { IfOk result (λ d. d ≡ description_of «record».now) }
+/// Returns what is shown of a record. The character set of the target's records may be known.
+fn describe(
+    alloc: Global,
+    charset: Option<Charset>,
+    record: &Record,
+) -> Result<Description, AllocError>
+    ensures { IfOk result (λ d. d ≡ description_of charset «record».now) }
 {
     let opac = opac_of(alloc, record)?;
-    let entry = entry_with(alloc, record, &opac)?;
-    let fields = fields_with(alloc, &record.body, &opac)?;
+    let entry = entry_with(alloc, charset, record, &opac)?;
+    let fields = fields_with(alloc, charset, &record.body, &opac)?;
     let copies = show_copies(alloc, &opac)?;
-    let lines = lines_with(alloc, record, &opac)?;
+    let lines = lines_with(alloc, charset, record, &opac)?;
     Ok(describe_with(entry, fields, copies, lines))
 }
 
 /// Returns what is shown of each record.
 pub(crate) fn describe_each(
     alloc: Global,
+    charset: Option<Charset>,
     records: &[Record],
 ) -> Result<Vec<Description>, AllocError>
-    ensures { IfOk result (λ found. found.items ≡ map description_of records.now) }
+    ensures { IfOk result (λ found. found.items ≡ map (description_of charset) records.now) }
 {
     let mut found = Vec::new(alloc);
     for record in records {
-        let description = describe(alloc, record)?;
+        let description = describe(alloc, charset, record)?;
         found.push(description)?;
     }
     Ok(found)

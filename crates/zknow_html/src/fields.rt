@@ -6,7 +6,7 @@ ghost use Rattle.zknow_html.specs.Fields.{fields_of, no_fields, marc_fields, for
 use std::alloc::{AllocError, Global};
 use zapdu::{Content, External, RecordBody};
 use zber::Oid;
-use zmarc::{Format, format_of, put_author, put_isbn, put_title};
+use zmarc::{Charset, Format, Reading, format_of, put_author, put_isbn, put_title};
 use zopac::OpacRecord;
 
 /// Texts of a record, empty where it has none.
@@ -33,25 +33,30 @@ fn no_fields(alloc: Global) -> Fields
 }
 
 /// Returns the texts of a record of MARC.
-fn marc_fields(alloc: Global, format: Format, octets: &[u8]) -> Result<Fields, AllocError>
+fn marc_fields(alloc: Global, reading: Reading, octets: &[u8]) -> Result<Fields, AllocError>
     ensures { IfOk result (λ f. fields_of (string_bytes f.title) (string_bytes f.author) (string_bytes f.isbn)
-        ≡ marc_fields format octets.now) }
+        ≡ marc_fields reading octets.now) }
 {
     let mut found = no_fields(alloc);
-    put_title(alloc, octets, format, &mut found.title)?;
-    put_author(alloc, octets, format, &mut found.author)?;
-    put_isbn(alloc, octets, format, &mut found.isbn)?;
+    put_title(alloc, octets, reading, &mut found.title)?;
+    put_author(alloc, octets, reading, &mut found.author)?;
+    put_isbn(alloc, octets, reading, &mut found.isbn)?;
     Ok(found)
 }
 
-/// Returns the texts of octets that are read in a format.
-fn format_fields(alloc: Global, format: Option<Format>, octets: &[u8]) -> Result<Fields, AllocError>
+/// Returns the texts of octets that are read in a format. Their character set may be known.
+fn format_fields(
+    alloc: Global,
+    charset: Option<Charset>,
+    format: Option<Format>,
+    octets: &[u8],
+) -> Result<Fields, AllocError>
     ensures { IfOk result (λ f. fields_of (string_bytes f.title) (string_bytes f.author) (string_bytes f.isbn)
-        ≡ format_fields format octets.now) }
+        ≡ format_fields charset format octets.now) }
 {
     match format {
         None => Ok(no_fields(alloc)),
-        Some(format) => marc_fields(alloc, format, octets),
+        Some(format) => marc_fields(alloc, format.read_in(charset), octets),
     }
 }
 
@@ -69,56 +74,66 @@ fn arcs_of(direct: &Option<Oid>) -> &[u32]
 /// Other contents have no text.
 fn content_fields(
     alloc: Global,
+    charset: Option<Charset>,
     direct: &Option<Oid>,
     content: &Content,
 ) -> Result<Fields, AllocError>
     ensures { IfOk result (λ f. fields_of (string_bytes f.title) (string_bytes f.author) (string_bytes f.isbn)
-        ≡ content_fields direct.now content.now) }
+        ≡ content_fields charset direct.now content.now) }
 {
     match content {
         Content::Aligned(octets) => {
             let format = format_of(arcs_of(direct), octets.as_slice());
-            format_fields(alloc, format, octets.as_slice())
+            format_fields(alloc, charset, format, octets.as_slice())
         }
         Content::Single(_) | Content::Arbitrary(_) => Ok(no_fields(alloc)),
     }
 }
 
 /// Returns the texts of what the target sent.
-fn body_fields(alloc: Global, body: &RecordBody) -> Result<Fields, AllocError>
+fn body_fields(
+    alloc: Global,
+    charset: Option<Charset>,
+    body: &RecordBody,
+) -> Result<Fields, AllocError>
     ensures { IfOk result (λ f. fields_of (string_bytes f.title) (string_bytes f.author) (string_bytes f.isbn)
-        ≡ body_fields body.now) }
+        ≡ body_fields charset body.now) }
 {
     match body {
         RecordBody::Retrieval(external) => {
-            content_fields(alloc, &external.direct, &external.content)
+            content_fields(alloc, charset, &external.direct, &external.content)
         }
         RecordBody::Surrogate(_) | RecordBody::Fragment(_) => Ok(no_fields(alloc)),
     }
 }
 
 /// Returns the texts of a bibliographic record.
-fn bibliographic_fields(alloc: Global, found: &Option<External>) -> Result<Fields, AllocError>
+fn bibliographic_fields(
+    alloc: Global,
+    charset: Option<Charset>,
+    found: &Option<External>,
+) -> Result<Fields, AllocError>
     ensures { IfOk result (λ f. fields_of (string_bytes f.title) (string_bytes f.author) (string_bytes f.isbn)
-        ≡ bibliographic_fields found.now) }
+        ≡ bibliographic_fields charset found.now) }
 {
     match found {
         None => Ok(no_fields(alloc)),
-        Some(external) => content_fields(alloc, &external.direct, &external.content),
+        Some(external) => content_fields(alloc, charset, &external.direct, &external.content),
     }
 }
 
 /// Returns the texts of what the target sent, which is a record with its copies or none.
 pub(crate) fn fields_with(
     alloc: Global,
+    charset: Option<Charset>,
     body: &RecordBody,
     opac: &Option<OpacRecord>,
 ) -> Result<Fields, AllocError>
     ensures { IfOk result (λ f. fields_of (string_bytes f.title) (string_bytes f.author) (string_bytes f.isbn)
-        ≡ fields_with body.now opac.now) }
+        ≡ fields_with charset body.now opac.now) }
 {
     match opac {
-        None => body_fields(alloc, body),
-        Some(found) => bibliographic_fields(alloc, &found.bibliographic),
+        None => body_fields(alloc, charset, body),
+        Some(found) => bibliographic_fields(alloc, charset, &found.bibliographic),
     }
 }

@@ -19,6 +19,7 @@ use zhtml::{
 use zknow::{Knowledge, Names};
 use zknow_stops::Stop;
 use zknow_titles::show_names;
+use zmarc::Charset;
 
 /// Appends the encoding of the page.
 #[tactic(auto, unfolding(crate::specs::Page::encoding))]
@@ -174,15 +175,16 @@ pub(crate) fn put_part_with(
     name: &str,
     heading: &str,
     shown: &[String],
+    charsets: &[Option<Charset>],
     knowledge: &Knowledge,
     out: &mut String,
 ) -> Result<(), AllocError>
     ensures { OnOk result (string_bytes out.new ≡ string_bytes out.old
-        ++ part_with name.now heading.now (map string_bytes shown.now) knowledge.now) }
+        ++ part_with name.now heading.now (map string_bytes shown.now) charsets.now knowledge.now) }
 {
     put_section_start(alloc, name, heading, out)?;
     let rows = knowledge.rows()?;
-    put_table(alloc, shown, knowledge, &rows, out)?;
+    put_table(alloc, shown, charsets, knowledge, &rows, out)?;
     put_section_end(out)
 }
 
@@ -191,15 +193,16 @@ pub(crate) fn put_part_with(
 fn put_tables(
     alloc: Global,
     shown: &[String],
+    charsets: &[Option<Charset>],
     knowledge: &Knowledge,
     stops: &[Option<Stop>],
     out: &mut String,
 ) -> Result<(), AllocError>
     ensures { OnOk result (string_bytes out.new ≡ string_bytes out.old
-        ++ tables (map string_bytes shown.now) stops.now knowledge.now) }
+        ++ tables (map string_bytes shown.now) charsets.now stops.now knowledge.now) }
 {
     put_catalogues_part(alloc, shown, knowledge, stops, out)?;
-    put_part_with(alloc, "records", "Records", shown, knowledge, out)
+    put_part_with(alloc, "records", "Records", shown, charsets, knowledge, out)
 }
 
 /// Appends what is shown.
@@ -208,17 +211,18 @@ fn put_body(
     alloc: Global,
     heading: &[u8],
     shown: &[String],
+    charsets: &[Option<Charset>],
     knowledge: &Knowledge,
     stops: &[Option<Stop>],
     out: &mut String,
 ) -> Result<(), AllocError>
     ensures { OnOk result (string_bytes out.new ≡ string_bytes out.old
-        ++ body heading.now (tables (map string_bytes shown.now) stops.now knowledge.now)) }
+        ++ body heading.now (tables (map string_bytes shown.now) charsets.now stops.now knowledge.now)) }
 {
     put_bare(alloc, Element::Body, out)?;
     put_said(alloc, Element::H1, heading, out)?;
     put_bare(alloc, Element::Main, out)?;
-    put_tables(alloc, shown, knowledge, stops, out)?;
+    put_tables(alloc, shown, charsets, knowledge, stops, out)?;
     put_end(Element::Main, out)?;
     put_end(Element::Body, out)
 }
@@ -229,17 +233,21 @@ fn view(
     alloc: Global,
     heading: &[u8],
     names: &Names,
+    charsets: &[Option<Charset>],
     stops: &[Option<Stop>],
     knowledge: &Knowledge,
 ) -> Result<String, AllocError>
-    ensures { IfOk result (λ text. string_bytes text ≡ page heading.now names.now stops.now knowledge.now) }
+    ensures { IfOk result (λ text. string_bytes text
+        ≡ page heading.now names.now charsets.now stops.now knowledge.now) }
 {
     let shown = show_names(alloc, names)?;
     let mut text = String::new(alloc);
     put_doctype(&mut text)?;
     put_only(alloc, Element::Html, AttributeName::Lang, "en", &mut text)?;
     put_head(alloc, POLICY, STYLE, heading, &mut text)?;
-    put_body(alloc, heading, &shown, knowledge, stops, &mut text)?;
+    put_body(
+        alloc, heading, &shown, charsets, knowledge, stops, &mut text,
+    )?;
     put_end(Element::Html, &mut text)?;
     Ok(text)
 }
@@ -254,30 +262,31 @@ fn view(
 /// lines if they differ. No cell of a single record is.
 ///
 /// Entry `c` of `stops` says why the connection of target `c` stopped; without an entry it did not. A target has its
-/// name in `names`, else `#` and its number.
+/// name in `names`, else `#` and its number. Entry `c` of `charsets` is the character set of the records of target `c`,
+/// if that is known: MARC records and SUTRS are read in it, as `print_titles` of `zknow_titles` says.
 ///
 /// Read back, the page has each of these rows once, in this order.
 ///
-/// Whatever the heading, the names, the stops, the diagnostics and the records are, the page is a document of the small
-/// HTML of `zhtml`: their texts are no markup in it. It has no script, and loads nothing.
+/// Whatever the heading, the names, the character sets, the stops, the diagnostics and the records are, the page is a
+/// document of the small HTML of `zhtml`: their texts are no markup in it. It has no script, and loads nothing.
 ///
 /// Returns `AllocError` if no memory is found; nothing is appended.
-#[tactic(auto, using(crate::proofs::PageTheory::page_is_document, crate::proofs::PageTheory::page_has_rows))]
 pub fn print_html(
     alloc: Global,
     heading: &[u8],
     names: &Names,
+    charsets: &[Option<Charset>],
     stops: &[Option<Stop>],
     knowledge: &Knowledge,
     out: &mut Vec<u8>,
 ) -> Result<(), AllocError>
     ensures ok { OnOk result (out.new.items
-        ≡ out.old.items ++ page heading.now names.now stops.now knowledge.now) }
+        ≡ out.old.items ++ page heading.now names.now charsets.now stops.now knowledge.now) }
     ensures err { OnErr result (out.new.items ≡ out.old.items) }
-    ensures document { IsDocument (page heading.now names.now stops.now knowledge.now) }
-    ensures rows { HasRowTexts (page heading.now names.now stops.now knowledge.now)
-        (row_texts (shown_names names.now) stops.now knowledge.now) }
+    ensures document { IsDocument (page heading.now names.now charsets.now stops.now knowledge.now) }
+    ensures rows { HasRowTexts (page heading.now names.now charsets.now stops.now knowledge.now)
+        (row_texts (shown_names names.now) charsets.now stops.now knowledge.now) }
 {
-    let text = view(alloc, heading, names, stops, knowledge)?;
+    let text = view(alloc, heading, names, charsets, stops, knowledge)?;
     out.extend_from_slice(text.as_bytes())
 }

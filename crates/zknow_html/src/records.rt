@@ -15,6 +15,7 @@ use std::alloc::{AllocError, Global};
 use zhtml::{Element, put_end, put_text};
 use zknow::{Knowledge, RowKey};
 use zknow_titles::{label_of, put_joined, records_of};
+use zmarc::{Charset, charset_at};
 
 /// How many positions a block of rows has at most. A browser lays a block out once it comes near to what is in sight.
 const BLOCK: usize = 50;
@@ -193,15 +194,16 @@ fn put_described(
 fn put_position(
     alloc: Global,
     shown: &[String],
+    charsets: &[Option<Charset>],
     knowledge: &Knowledge,
     key: &RowKey,
     out: &mut String,
 ) -> Result<(), AllocError>
     ensures { OnOk result (string_bytes out.new
-        ≡ string_bytes out.old ++ position_rows (map string_bytes shown.now) knowledge.now key.now) }
+        ≡ string_bytes out.old ++ position_rows (map string_bytes shown.now) charsets.now knowledge.now key.now) }
 {
     let records = records_of(knowledge, key.target, key.set, &key.position);
-    let descriptions = describe_each(alloc, records)?;
+    let descriptions = describe_each(alloc, charset_at(charsets, key.target), records)?;
     put_described(alloc, shown, key, &descriptions, out)
 }
 
@@ -226,17 +228,18 @@ fn room_behind(room: usize) -> usize
 fn put_positions(
     alloc: Global,
     shown: &[String],
+    charsets: &[Option<Charset>],
     knowledge: &Knowledge,
     rows: &[RowKey],
     out: &mut String,
 ) -> Result<(), AllocError>
     ensures { OnOk result (string_bytes out.new ≡ string_bytes out.old
-        ++ rows_from (map string_bytes shown.now) knowledge.now 50 rows.now) }
+        ++ rows_from (map string_bytes shown.now) charsets.now knowledge.now 50 rows.now) }
 {
     let mut room = BLOCK;
     for key in rows {
         put_break(alloc, room, out)?;
-        put_position(alloc, shown, knowledge, key, out)?;
+        put_position(alloc, shown, charsets, knowledge, key, out)?;
         room = room_behind(room);
     }
     Ok(())
@@ -277,16 +280,17 @@ fn put_columns(alloc: Global, out: &mut String) -> Result<(), AllocError>
 pub(crate) fn put_table(
     alloc: Global,
     shown: &[String],
+    charsets: &[Option<Charset>],
     knowledge: &Knowledge,
     rows: &[RowKey],
     out: &mut String,
 ) -> Result<(), AllocError>
     ensures { OnOk result (string_bytes out.new
-        ≡ string_bytes out.old ++ record_table (map string_bytes shown.now) knowledge.now rows.now) }
+        ≡ string_bytes out.old ++ record_table (map string_bytes shown.now) charsets.now knowledge.now rows.now) }
 {
     put_table_start(alloc, out)?;
     put_columns(alloc, out)?;
     put_body_start(alloc, out)?;
-    put_positions(alloc, shown, knowledge, rows, out)?;
+    put_positions(alloc, shown, charsets, knowledge, rows, out)?;
     put_table_end(out)
 }

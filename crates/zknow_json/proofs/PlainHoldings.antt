@@ -14,6 +14,7 @@ use Rattle.zopac.specs.declared.holdings.HoldingsAndCirc.{HoldingsAndCirc}
 use Rattle.zopac.specs.declared.opac.OpacRecord.{OpacRecord}
 use Rattle.zopac.specs.declared.volume.Volume.{Volume}
 use Rattle.zopac.specs.HoldingKinds.{holding}
+use Rattle.zmarc.specs.declared.charset.Charset.{Charset}
 use Rattle.zknow_json.specs.Holdings.{given_member, volume_object, volumes_member, availability_members, item_members, loan_members, circulation_object, circulations_member, leader_members, report_members, code_members, library_members, shelf_members, place_members, note_members, whole_members, copy_members, marc_holding_members, holding_members, holding_object, holdings_member, opac_of, bibliographic_members, opac_members, members_with, read_members}
 use Rattle.zknow_json.specs.Members.{object}
 use Rattle.zknow_json.proofs.Objects.{AreMembers, AreItems, IsObject, no_items_plain, more_items, nothing, both, among, boolean_plain, octets_plain, received_plain, object_plain, array_plain}
@@ -190,19 +191,22 @@ holdings_plain (Some holdings) = array_plain (codes "holdings") refl (each_holdi
 
 -- ---- records with copies
 
-bibliographic_plain : (v : Option External) → AreMembers field_names (bibliographic_members v)
-bibliographic_plain None = among field_names refl nothing
-bibliographic_plain (Some v) = fields_plain v.direct v.content
+bibliographic_plain : (charset : Option Charset) (v : Option External)
+    → AreMembers field_names (bibliographic_members charset v)
+bibliographic_plain charset None = among field_names refl nothing
+bibliographic_plain charset (Some v) = fields_plain charset v.direct v.content
 
 abbrev pub read_names : Names
 read_names = field_names ++ codes "holdings" ∷ []
 
-with_plain : (direct : Option (List ℕ)) (content : Content) (o : Option OpacRecord)
-    → AreMembers read_names (members_with direct content o)
+with_plain : (charset : Option Charset) (direct : Option (List ℕ)) (content : Content) (o : Option OpacRecord)
+    → AreMembers read_names (members_with charset direct content o)
 unfolding opac_members
-with_plain direct content None = among read_names refl (fields_plain direct content)
-with_plain direct content (Some o) = both (bibliographic_plain o.bibliographic) (holdings_plain o.holdings)
+with_plain charset direct content None = among read_names refl (fields_plain charset direct content)
+with_plain charset direct content (Some o) =
+    both (bibliographic_plain charset o.bibliographic) (holdings_plain o.holdings)
 
-pub read_plain : (direct : Option (List ℕ)) (content : Content) → AreMembers read_names (read_members direct content)
+pub read_plain : (charset : Option Charset) (direct : Option (List ℕ)) (content : Content)
+    → AreMembers read_names (read_members charset direct content)
 unfolding read_members
-read_plain direct content = with_plain direct content (opac_of (unwrap_or direct []) content)
+read_plain charset direct content = with_plain charset direct content (opac_of (unwrap_or direct []) content)

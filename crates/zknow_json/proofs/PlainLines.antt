@@ -1,4 +1,4 @@
--- The texts consist of lines of JSON, whatever the names, the stops, the facts and the changes are.
+-- The texts consist of lines of JSON, whatever the names, the character sets, the stops, the facts and the changes are.
 use Rattle.std.proofs.Common.{◌≡◌, ℕ, ◌+◌, ◌≤◌, ◌<◌, ℤ, pos, Bool, true, false, cond, Option, Some, None, List, [], ◌∷◌, ◌++◌, refl, sym, ap, subst, ◌∙◌, arith}
 use Rattle.std.specs.Prelude.{◌==◌, All, codes, slice_get}
 use Rattle.std.specs.List.{flat_map}
@@ -35,6 +35,8 @@ use Rattle.zknow_changes.specs.declared.between.Change.{Change}
 use Rattle.zknow_changes.specs.declared.between.ChangeKind.{ChangeKind}
 use Rattle.zknow_changes.specs.declared.between.ChangeKind.TheVariants.{New, Changed, Gone}
 use Rattle.zknow_changes.specs.Lists.{kind_name, names_for}
+use Rattle.zmarc.specs.declared.charset.Charset.{Charset}
+use Rattle.zmarc.specs.Charsets.{charset_at}
 use Rattle.zknow_stops.specs.declared.detail.Detail.{Detail}
 use Rattle.zknow_stops.specs.declared.stop.Stop.{Stop}
 use Rattle.zknow_stops.specs.Details.{detail_words}
@@ -114,13 +116,14 @@ contents_plain r (Some p) = among contents_names refl (octets_plain (codes "octe
 abbrev body_names : Names
 body_names = codes "syntax" ∷ database_names ++ read_names ++ diag_names ++ codes "octets" ∷ []
 
-body_plain : (r : Record) (body : RecordBody) → AreMembers body_names (body_members r body)
-body_plain r (Retrieval v) =
+body_plain : (charset : Option Charset) (r : Record) (body : RecordBody)
+    → AreMembers body_names (body_members charset r body)
+body_plain charset r (Retrieval v) =
     among body_names refl
-    (both (both (both (syntax_plain v.direct) (database_plain r.name)) (read_plain v.direct v.content))
+    (both (both (both (syntax_plain v.direct) (database_plain r.name)) (read_plain charset v.direct v.content))
     (contents_plain r (octets_alone v.direct v.indirect v.descriptor v.content)))
-body_plain r (Surrogate d) = among body_names refl (both (database_plain r.name) (diag_plain d))
-body_plain r (Fragment m) =
+body_plain charset r (Surrogate d) = among body_names refl (both (database_plain r.name) (diag_plain d))
+body_plain charset r (Fragment m) =
     among body_names refl (octets_plain (codes "encoding") (encoding whole_record r) refl)
 
 kind_utf8 : (body : RecordBody) → IsUtf8 (body_kind body)
@@ -128,15 +131,16 @@ kind_utf8 (Retrieval v) = IsUtf8-are_ascii (codes "record") refl
 kind_utf8 (Surrogate d) = IsUtf8-are_ascii (codes "diagnostic") refl
 kind_utf8 (Fragment m) = IsUtf8-are_ascii (codes "element") refl
 
-record_plain : (r : Record) → IsObject (record_object r)
+record_plain : (charset : Option Charset) (r : Record) → IsObject (record_object charset r)
 unfolding record_object
-record_plain r =
+record_plain charset r =
     object_plain refl (both (text_plain (codes "type") (body_kind r.body) refl (kind_utf8 r.body))
-    (body_plain r r.body))
+    (body_plain charset r r.body))
 
-records_plain : (records : List Record) → AreItems (flat_map record_object records)
-records_plain [] = no_items_plain
-records_plain (r ∷ records) = more_items (record_plain r) (records_plain records)
+records_plain : (charset : Option Charset) (records : List Record)
+    → AreItems (flat_map (record_object charset) records)
+records_plain charset [] = no_items_plain
+records_plain charset (r ∷ records) = more_items (record_plain charset r) (records_plain charset records)
 
 abbrev row_names : Names
 row_names = head_names ++ codes "position" ∷ []
@@ -223,21 +227,23 @@ set_has_lines names facts b =
     (either_lines (is_failed_at b.target b.set facts) (failure_is_line names b) no_lines))
     (all_lines (diag_line names b) (diag_is_line names b) (diags_at b.target b.set facts))
 
-records_have_lines : (names : List (List ℕ)) (k : RowKey) (records : List Record)
-    → AreJsonLines (records_line names k records)
+records_have_lines : (charset : Option Charset) (names : List (List ℕ)) (k : RowKey) (records : List Record)
+    → AreJsonLines (records_line charset names k records)
 unfolding record_line conflict_line
-records_have_lines names k [] = no_lines
-records_have_lines names k (r ∷ []) =
+records_have_lines charset names k [] = no_lines
+records_have_lines charset names k (r ∷ []) =
     one_line (object_plain refl (both (row_head_plain (body_kind r.body) names k (kind_utf8 r.body))
-    (body_plain r r.body)))
-records_have_lines names k (r ∷ q ∷ rest) =
+    (body_plain charset r r.body)))
+records_have_lines charset names k (r ∷ q ∷ rest) =
     one_line (object_plain refl
     (both (row_head_plain (codes "conflict") names k (IsUtf8-are_ascii (codes "conflict") refl))
-    (array_plain (codes "records") refl (records_plain (r ∷ q ∷ rest)))))
+    (array_plain (codes "records") refl (records_plain charset (r ∷ q ∷ rest)))))
 
-row_has_lines : (names : List (List ℕ)) (facts : List Fact) (k : RowKey) → AreJsonLines (row_line names facts k)
+row_has_lines : (names : List (List ℕ)) (charsets : List (Option Charset)) (facts : List Fact) (k : RowKey)
+    → AreJsonLines (row_line names charsets facts k)
 unfolding row_line
-row_has_lines names facts k = records_have_lines names k (records_at k.target k.set k.position facts)
+row_has_lines names charsets facts k =
+    records_have_lines (charset_at charsets k.target) names k (records_at k.target k.set k.position facts)
 
 -- ---- the lines of the targets that stopped
 
@@ -274,14 +280,15 @@ stops_have_lines names target (s ∷ stops) =
     both_lines (stop_has_lines names target s) (stops_have_lines names (target + 1) stops)
 
 -- the whole text
-pub text_has_lines : (names : List (List ℕ)) (stops : List (Option Stop)) (facts : List Fact)
-    → AreJsonLines (json_lines names stops facts)
+pub text_has_lines : (names : List (List ℕ)) (charsets : List (Option Charset)) (stops : List (Option Stop))
+    (facts : List Fact) → AreJsonLines (json_lines names charsets stops facts)
 unfolding json_lines
-text_has_lines names stops facts =
+text_has_lines names charsets stops facts =
     both_lines (both_lines
     (all_lines (set_lines names facts) (set_has_lines names facts) (ascending set_cmp (filter_map block_key_of facts)))
     (stops_have_lines names 0 stops))
-    (all_lines (row_line names facts) (row_has_lines names facts) (ascending row_cmp (filter_map row_key_of facts)))
+    (all_lines (row_line names charsets facts) (row_has_lines names charsets facts)
+    (ascending row_cmp (filter_map row_key_of facts)))
 
 -- ---- the lines of changes
 
@@ -296,7 +303,7 @@ change_is_line earlier later c =
     one_line (object_plain refl
     (both (both (text_plain (codes "change") (kind_name c.kind) refl (kind_name_utf8 c.kind))
     (row_head_plain (body_kind c.rec.body) (names_for earlier later c.kind) c.row (kind_utf8 c.rec.body)))
-    (body_plain c.rec c.rec.body)))
+    (body_plain None c.rec c.rec.body)))
 
 -- the whole text
 pub changes_have_lines : (earlier later : List (List ℕ)) (changes : List Change)

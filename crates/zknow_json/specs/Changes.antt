@@ -1,5 +1,5 @@
--- The lines of changes between two saved files.
-use Rattle.std.specs.Prelude.{ℕ, List, ◌++◌, codes}
+-- The lines of changes between two saved files. No character set is known of their records.
+use Rattle.std.specs.Prelude.{ℕ, None, List, ◌++◌, codes}
 use Rattle.std.specs.List.{flat_map}
 use Rattle.zknow_changes.specs.declared.between.Change.{Change}
 use Rattle.zknow_changes.specs.Lists.{kind_name, names_for}
@@ -10,7 +10,7 @@ use Rattle.zknow_json.specs.Records.{body_kind, body_members, row_head}
 unfoldable pub change_line : List (List ℕ) → List (List ℕ) → Change → List ℕ
 change_line earlier later c =
     line (object (text_member (codes "change") (kind_name c.kind)
-    ++ row_head (body_kind c.rec.body) (names_for earlier later c.kind) c.row ++ body_members c.rec c.rec.body))
+    ++ row_head (body_kind c.rec.body) (names_for earlier later c.kind) c.row ++ body_members None c.rec c.rec.body))
 
 -- a line for each change
 unfoldable pub change_lines : List (List ℕ) → List (List ℕ) → List Change → List ℕ

@@ -17,6 +17,7 @@ use Rattle.zopac.specs.declared.opac.OpacRecord.{OpacRecord}
 use Rattle.zopac.specs.declared.volume.Volume.{Volume}
 use Rattle.zopac.specs.HoldingKinds.{holding}
 use Rattle.zopac.specs.Opacs.{opac_meaning}
+use Rattle.zmarc.specs.declared.charset.Charset.{Charset}
 use Rattle.zknow_json.specs.Fields.{field_members}
 use Rattle.zknow_json.specs.Members.{boolean_member, octets_member, received_member, object, array_member}
 
@@ -162,20 +163,20 @@ opac_of syntax (Single e) = if bytes_eq syntax opac then opac_meaning e else Non
 opac_of syntax (Aligned octets) = None
 opac_of syntax (Arbitrary bits) = None
 
--- the fields of the bibliographic record, if there is one
-abbrev pub bibliographic_members : Option External → List Token
-bibliographic_members None = []
-bibliographic_members (Some v) = field_members v.direct v.content
+-- the fields of the bibliographic record, if there is one; the character set of the target's records may be known
+abbrev pub bibliographic_members : Option Charset → Option External → List Token
+bibliographic_members charset None = []
+bibliographic_members charset (Some v) = field_members charset v.direct v.content
 
 -- the fields of the bibliographic record, then the holdings
-unfoldable pub opac_members : OpacRecord → List Token
-opac_members o = bibliographic_members o.bibliographic ++ holdings_member o.holdings
+unfoldable pub opac_members : Option Charset → OpacRecord → List Token
+opac_members charset o = bibliographic_members charset o.bibliographic ++ holdings_member o.holdings
 
 -- what is read in a record with its copies; in another record its own fields
-abbrev pub members_with : Option (List ℕ) → Content → Option OpacRecord → List Token
-members_with direct content None = field_members direct content
-members_with direct content (Some o) = opac_members o
+abbrev pub members_with : Option Charset → Option (List ℕ) → Content → Option OpacRecord → List Token
+members_with charset direct content None = field_members charset direct content
+members_with charset direct content (Some o) = opac_members charset o
 
 -- what is read in a record: its fields, and its holdings where it has them
-unfoldable pub read_members : Option (List ℕ) → Content → List Token
-read_members direct content = members_with direct content (opac_of (unwrap_or direct []) content)
+unfoldable pub read_members : Option Charset → Option (List ℕ) → Content → List Token
+read_members charset direct content = members_with charset direct content (opac_of (unwrap_or direct []) content)

@@ -1,4 +1,4 @@
--- The texts consist of lines of JSON, whatever the names, the stops, the facts and the changes are.
+-- The texts consist of lines of JSON, whatever the names, the character sets, the stops, the facts and the changes are.
 use Rattle.std.specs.Prelude.{◌≡◌, ◌≤◌, ℕ, Option, List, ◌++◌, All, codes}
 use Rattle.std.specs.List.{flat_map}
 use Rattle.std.specs.Str.{IsUtf8}
@@ -7,6 +7,7 @@ use Rattle.json.specs.Print.{print}
 use Rattle.json.specs.Strict.{HasUniqueKeys}
 use Rattle.json.specs.Tree.{json_tokens, MembersHaveNumbers}
 use Rattle.zknow.specs.declared.fact.Fact.{Fact}
+use Rattle.zmarc.specs.declared.charset.Charset.{Charset}
 use Rattle.zknow_stops.specs.declared.stop.Stop.{Stop}
 use Rattle.zknow_changes.specs.declared.between.Change.{Change}
 use Rattle.zknow_json.specs.Changes.{change_lines}
@@ -34,11 +35,11 @@ pub record AreJsonLines (octets : List ℕ) : Type 0 where
   pub json : All IsJsonObject objects
   pub no_control : All (λ o. HasNoControl (object_text o)) objects
 
--- whatever the names, the stops and the facts are
+-- whatever the names, the character sets, the stops and the facts are
 abbrev pub LinesLaw : Type 0
 LinesLaw =
-    (names : List (List ℕ)) (stops : List (Option Stop)) (facts : List Fact)
-    → AreJsonLines (json_lines names stops facts)
+    (names : List (List ℕ)) (charsets : List (Option Charset)) (stops : List (Option Stop)) (facts : List Fact)
+    → AreJsonLines (json_lines names charsets stops facts)
 
 -- whatever the names of both files and the changes are
 abbrev pub ChangeLinesLaw : Type 0

@@ -12,6 +12,8 @@ use Rattle.zknow.specs.declared.fact.Fact.{Fact}
 use Rattle.zknow.specs.declared.tables.keys.RowKey.{RowKey}
 use Rattle.zknow.specs.Encodings.{encoding}
 use Rattle.zknow.specs.Known.{records_at}
+use Rattle.zmarc.specs.declared.charset.Charset.{Charset}
+use Rattle.zmarc.specs.Charsets.{charset_at}
 use Rattle.zknow_json.specs.Holdings.{read_members}
 use Rattle.zknow_json.specs.Members.{text_member, integer_member, octets_member, received_member, object, array_member, line}
 use Rattle.zknow_json.specs.Sets.{head, diag_members}
@@ -43,17 +45,17 @@ body_kind (Retrieval v) = codes "record"
 body_kind (Surrogate d) = codes "diagnostic"
 body_kind (Fragment m) = codes "element"
 
--- what a line has of a record
-abbrev pub body_members : Record → RecordBody → List Token
-body_members r (Retrieval v) =
-    syntax_member v.direct ++ database_member r.name ++ read_members v.direct v.content
+-- what a line has of a record; the character set of the target's records may be known
+abbrev pub body_members : Option Charset → Record → RecordBody → List Token
+body_members charset r (Retrieval v) =
+    syntax_member v.direct ++ database_member r.name ++ read_members charset v.direct v.content
     ++ contents_member r (octets_alone v.direct v.indirect v.descriptor v.content)
-body_members r (Surrogate d) = database_member r.name ++ diag_members d
-body_members r (Fragment m) = encoding_member r
+body_members charset r (Surrogate d) = database_member r.name ++ diag_members d
+body_members charset r (Fragment m) = encoding_member r
 
 -- one of several records
-unfoldable pub record_object : Record → List Token
-record_object r = object (text_member (codes "type") (body_kind r.body) ++ body_members r r.body)
+unfoldable pub record_object : Option Charset → Record → List Token
+record_object charset r = object (text_member (codes "type") (body_kind r.body) ++ body_members charset r r.body)
 
 -- ---- rows
 
@@ -62,21 +64,22 @@ unfoldable pub row_head : List ℕ → List (List ℕ) → RowKey → List Token
 row_head kind names k = head kind names k.target k.set ++ integer_member (codes "position") k.position
 
 -- the line of one record
-unfoldable pub record_line : List (List ℕ) → RowKey → Record → List ℕ
-record_line names k r = line (object (row_head (body_kind r.body) names k ++ body_members r r.body))
+unfoldable pub record_line : Option Charset → List (List ℕ) → RowKey → Record → List ℕ
+record_line charset names k r = line (object (row_head (body_kind r.body) names k ++ body_members charset r r.body))
 
 -- the line of several different records at one position
-unfoldable pub conflict_line : List (List ℕ) → RowKey → List Record → List ℕ
-conflict_line names k records =
+unfoldable pub conflict_line : Option Charset → List (List ℕ) → RowKey → List Record → List ℕ
+conflict_line charset names k records =
     line (object (row_head (codes "conflict") names k
-    ++ array_member (codes "records") (flat_map record_object records)))
+    ++ array_member (codes "records") (flat_map (record_object charset) records)))
 
 -- the line of the records at one position: none without a record, and a conflict where there are several
-abbrev pub records_line : List (List ℕ) → RowKey → List Record → List ℕ
-records_line names k [] = []
-records_line names k (r ∷ []) = record_line names k r
-records_line names k (r ∷ q ∷ rest) = conflict_line names k (r ∷ q ∷ rest)
+abbrev pub records_line : Option Charset → List (List ℕ) → RowKey → List Record → List ℕ
+records_line charset names k [] = []
+records_line charset names k (r ∷ []) = record_line charset names k r
+records_line charset names k (r ∷ q ∷ rest) = conflict_line charset names k (r ∷ q ∷ rest)
 
--- the line of a row
-unfoldable pub row_line : List (List ℕ) → List Fact → RowKey → List ℕ
-row_line names facts k = records_line names k (records_at k.target k.set k.position facts)
+-- the line of a row, in the character set of the row's target
+unfoldable pub row_line : List (List ℕ) → List (Option Charset) → List Fact → RowKey → List ℕ
+row_line names charsets facts k =
+    records_line (charset_at charsets k.target) names k (records_at k.target k.set k.position facts)

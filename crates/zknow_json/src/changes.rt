@@ -26,7 +26,7 @@ fn put_change(
     let mut line = Line::new(alloc)?;
     line.put_text("change", change.kind.name())?;
     put_row_head(kind_of(&change.rec.body), names, &change.row, &mut line)?;
-    put_body(alloc, &change.rec, &mut line)?;
+    put_body(alloc, None, &change.rec, &mut line)?;
     line.finish(out)
 }
 
@@ -62,9 +62,9 @@ fn lines(
     Ok(text)
 }
 
-/// Appends the changes between two saved files as lines of JSON, one object each, in their order. An object has `change`
-/// with the word for its kind, and then the members that `print_json` gives the record at its position. `earlier` and
-/// `later` are the names of the two files.
+/// Appends the changes between two saved files as lines of JSON, one object each, in their order. An object has
+/// `change` with the word for its kind, and then the members that `print_json` gives the record at its position if no
+/// character set is known. `earlier` and `later` are the names of the two files.
 ///
 /// Returns `AllocError` if no memory is found; nothing is appended.
 pub fn print_change_lines(

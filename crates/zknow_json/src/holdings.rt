@@ -11,6 +11,7 @@ use bytes::Bytes;
 use std::alloc::{AllocError, Global};
 use zapdu::{Content, External, octet_aligned};
 use zber::{Node, Oid, Seq};
+use zmarc::Charset;
 use zopac::{Circulation, Holding, HoldingsAndCirc, OpacRecord, PartError, Volume, read_opac};
 
 /// The syntax of OPAC.
@@ -303,23 +304,29 @@ fn put_holdings(
 /// Writes the fields of a bibliographic record, if there is one.
 fn put_bibliographic(
     alloc: Global,
+    charset: Option<Charset>,
     found: &Option<External>,
     line: &mut Line,
 ) -> Result<(), AllocError>
-    ensures { OnOk result (line.new ≡ line.old ++ bibliographic_members found.now) }
+    ensures { OnOk result (line.new ≡ line.old ++ bibliographic_members charset found.now) }
 {
     match found {
         None => Ok(()),
-        Some(external) => put_fields(alloc, external, line),
+        Some(external) => put_fields(alloc, charset, external, line),
     }
 }
 
 /// Writes the fields of the bibliographic record, then the holdings.
 #[tactic(auto, unfolding(crate::specs::Holdings::opac_members))]
-fn put_opac(alloc: Global, opac: &OpacRecord, line: &mut Line) -> Result<(), AllocError>
-    ensures { OnOk result (line.new ≡ line.old ++ opac_members opac.now) }
+fn put_opac(
+    alloc: Global,
+    charset: Option<Charset>,
+    opac: &OpacRecord,
+    line: &mut Line,
+) -> Result<(), AllocError>
+    ensures { OnOk result (line.new ≡ line.old ++ opac_members charset opac.now) }
 {
-    put_bibliographic(alloc, &opac.bibliographic, line)?;
+    put_bibliographic(alloc, charset, &opac.bibliographic, line)?;
     put_holdings(alloc, &opac.holdings, line)
 }
 
@@ -357,15 +364,17 @@ fn find_opac(
 /// Writes what is read in a record with its copies, or in another record its own fields.
 fn put_with(
     alloc: Global,
+    charset: Option<Charset>,
     external: &External,
     opac: &Option<OpacRecord>,
     line: &mut Line,
 ) -> Result<(), AllocError>
-    ensures { let v = external.now in OnOk result (line.new ≡ line.old ++ members_with v.direct v.content opac.now) }
+    ensures { let v = external.now in OnOk result (line.new
+        ≡ line.old ++ members_with charset v.direct v.content opac.now) }
 {
     match opac {
-        None => put_fields(alloc, external, line),
-        Some(found) => put_opac(alloc, found, line),
+        None => put_fields(alloc, charset, external, line),
+        Some(found) => put_opac(alloc, charset, found, line),
     }
 }
 
@@ -373,11 +382,12 @@ fn put_with(
 #[tactic(auto, unfolding(crate::specs::Holdings::read_members))]
 pub(crate) fn put_read(
     alloc: Global,
+    charset: Option<Charset>,
     external: &External,
     line: &mut Line,
 ) -> Result<(), AllocError>
-    ensures { OnOk result (line.new ≡ line.old ++ read_members external.now.direct external.now.content) }
+    ensures { OnOk result (line.new ≡ line.old ++ read_members charset external.now.direct external.now.content) }
 {
     let opac = find_opac(alloc, &external.direct, &external.content)?;
-    put_with(alloc, external, &opac, line)
+    put_with(alloc, charset, external, &opac, line)
 }

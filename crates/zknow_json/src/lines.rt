@@ -12,6 +12,7 @@ use crate::stops::put_stops;
 use std::alloc::{AllocError, Global};
 use zknow::{Knowledge, Names, RowKey, SetKey};
 use zknow_stops::Stop;
+use zmarc::Charset;
 
 /// Appends the lines of each set.
 fn put_sets(
@@ -34,15 +35,16 @@ fn put_sets(
 fn put_rows(
     alloc: Global,
     names: &Names,
+    charsets: &[Option<Charset>],
     knowledge: &Knowledge,
     rows: &[RowKey],
     out: &mut String,
 ) -> Result<(), AllocError>
     ensures { OnOk result (string_bytes out.new
-        ≡ string_bytes out.old ++ flat_map (row_line names.now knowledge.now) rows.now) }
+        ≡ string_bytes out.old ++ flat_map (row_line names.now charsets.now knowledge.now) rows.now) }
 {
     for key in rows {
-        put_row(alloc, names, knowledge, key, out)?;
+        put_row(alloc, names, charsets, knowledge, key, out)?;
     }
     Ok(())
 }
@@ -53,16 +55,17 @@ fn lines(
     alloc: Global,
     knowledge: &Knowledge,
     names: &Names,
+    charsets: &[Option<Charset>],
     stops: &[Option<Stop>],
 ) -> Result<String, AllocError>
-    ensures { IfOk result (λ text. string_bytes text ≡ json_lines names.now stops.now knowledge.now) }
+    ensures { IfOk result (λ text. string_bytes text ≡ json_lines names.now charsets.now stops.now knowledge.now) }
 {
     let mut text = String::new(alloc);
     let sets = knowledge.sets()?;
     put_sets(alloc, names, knowledge, &sets, &mut text)?;
     put_stops(alloc, names, stops, &mut text)?;
     let rows = knowledge.rows()?;
-    put_rows(alloc, names, knowledge, &rows, &mut text)?;
+    put_rows(alloc, names, charsets, knowledge, &rows, &mut text)?;
     Ok(text)
 }
 
@@ -72,6 +75,10 @@ fn lines(
 /// record is known has an object, by position, target and set. If different records are known at a position, its
 /// object has all of them.
 ///
+/// Entry `c` of `charsets` is the character set of the records of target `c`, if that is known: the fields of MARC
+/// records are read in it, whatever these say themselves. Without it they are read as `put_brief` of `zmarc` has it.
+/// Copies are read as UTF-8.
+///
 /// A target has its name in `names`, else its number. What stands for octets that are not UTF-8, and which members each
 /// object has, is in `CALLING.md`.
 ///
@@ -80,13 +87,15 @@ pub fn print_json(
     alloc: Global,
     knowledge: &Knowledge,
     names: &Names,
+    charsets: &[Option<Charset>],
     stops: &[Option<Stop>],
     out: &mut Vec<u8>,
 ) -> Result<(), AllocError>
-    ensures ok { OnOk result (out.new.items ≡ out.old.items ++ json_lines names.now stops.now knowledge.now) }
+    ensures ok { OnOk result (out.new.items
+        ≡ out.old.items ++ json_lines names.now charsets.now stops.now knowledge.now) }
     ensures err { OnErr result (out.new.items ≡ out.old.items) }
-    ensures utf8 { OnOk result (IsUtf8 (json_lines names.now stops.now knowledge.now)) }
+    ensures utf8 { OnOk result (IsUtf8 (json_lines names.now charsets.now stops.now knowledge.now)) }
 {
-    let text = lines(alloc, knowledge, names, stops)?;
+    let text = lines(alloc, knowledge, names, charsets, stops)?;
     out.extend_from_slice(text.as_str().as_bytes())
 }

@@ -14,6 +14,7 @@ use std::alloc::{AllocError, Global};
 use zapdu::{External, Record, RecordBody, octet_aligned};
 use zber::Oid;
 use zknow::{Knowledge, Known, Names, RowKey};
+use zmarc::{Charset, charset_at};
 
 /// Writes the syntax, if an object identifier names it.
 fn put_syntax(alloc: Global, syntax: &Option<Oid>, line: &mut Line) -> Result<(), AllocError>
@@ -73,15 +74,20 @@ pub(crate) fn kind_of(body: &RecordBody) -> &'static str
     }
 }
 
-/// Writes what a line has of a record.
-pub(crate) fn put_body(alloc: Global, record: &Record, line: &mut Line) -> Result<(), AllocError>
-    ensures { OnOk result (line.new ≡ line.old ++ body_members «record».now «record».now.body) }
+/// Writes what a line has of a record. The character set of the target's records may be known.
+pub(crate) fn put_body(
+    alloc: Global,
+    charset: Option<Charset>,
+    record: &Record,
+    line: &mut Line,
+) -> Result<(), AllocError>
+    ensures { OnOk result (line.new ≡ line.old ++ body_members charset «record».now «record».now.body) }
 {
     match &record.body {
         RecordBody::Retrieval(external) => {
             put_syntax(alloc, &external.direct, line)?;
             put_database(&record.name, line)?;
-            put_read(alloc, external, line)?;
+            put_read(alloc, charset, external, line)?;
             put_contents(alloc, record, external, line)
         }
         RecordBody::Surrogate(diag) => {
@@ -94,21 +100,31 @@ pub(crate) fn put_body(alloc: Global, record: &Record, line: &mut Line) -> Resul
 
 /// Writes one of several records.
 #[tactic(auto, unfolding(crate::specs::Records::record_object))]
-fn put_object(alloc: Global, record: &Record, line: &mut Line) -> Result<(), AllocError>
-    ensures { OnOk result (line.new ≡ line.old ++ record_object «record».now) }
+fn put_object(
+    alloc: Global,
+    charset: Option<Charset>,
+    record: &Record,
+    line: &mut Line,
+) -> Result<(), AllocError>
+    ensures { OnOk result (line.new ≡ line.old ++ record_object charset «record».now) }
 {
     line.begin()?;
     line.put_text("type", kind_of(&record.body))?;
-    put_body(alloc, record, line)?;
+    put_body(alloc, charset, record, line)?;
     line.end()
 }
 
 /// Writes each of several records.
-fn put_objects(alloc: Global, records: &[Record], line: &mut Line) -> Result<(), AllocError>
-    ensures { OnOk result (line.new ≡ line.old ++ flat_map record_object records.now) }
+fn put_objects(
+    alloc: Global,
+    charset: Option<Charset>,
+    records: &[Record],
+    line: &mut Line,
+) -> Result<(), AllocError>
+    ensures { OnOk result (line.new ≡ line.old ++ flat_map (record_object charset) records.now) }
 {
     for record in records {
-        put_object(alloc, record, line)?;
+        put_object(alloc, charset, record, line)?;
     }
     Ok(())
 }
@@ -131,17 +147,18 @@ pub(crate) fn put_row_head(
 #[tactic(auto, unfolding(crate::specs::Records::record_line))]
 fn put_record_line(
     alloc: Global,
+    charset: Option<Charset>,
     names: &Names,
     key: &RowKey,
     record: &Record,
     out: &mut String,
 ) -> Result<(), AllocError>
     ensures { OnOk result (string_bytes out.new
-        ≡ string_bytes out.old ++ record_line names.now key.now «record».now) }
+        ≡ string_bytes out.old ++ record_line charset names.now key.now «record».now) }
 {
     let mut line = Line::new(alloc)?;
     put_row_head(kind_of(&record.body), names, key, &mut line)?;
-    put_body(alloc, record, &mut line)?;
+    put_body(alloc, charset, record, &mut line)?;
     line.finish(out)
 }
 
@@ -149,18 +166,19 @@ fn put_record_line(
 #[tactic(auto, unfolding(crate::specs::Records::conflict_line))]
 fn put_conflict_line(
     alloc: Global,
+    charset: Option<Charset>,
     names: &Names,
     key: &RowKey,
     records: &[Record],
     out: &mut String,
 ) -> Result<(), AllocError>
     ensures { OnOk result (string_bytes out.new
-        ≡ string_bytes out.old ++ conflict_line names.now key.now records.now) }
+        ≡ string_bytes out.old ++ conflict_line charset names.now key.now records.now) }
 {
     let mut line = Line::new(alloc)?;
     put_row_head("conflict", names, key, &mut line)?;
     line.begin_array("records")?;
-    put_objects(alloc, records, &mut line)?;
+    put_objects(alloc, charset, records, &mut line)?;
     line.end_array()?;
     line.finish(out)
 }
@@ -168,18 +186,19 @@ fn put_conflict_line(
 /// Appends the line of the records of a row, nothing if there are none.
 fn put_records(
     alloc: Global,
+    charset: Option<Charset>,
     names: &Names,
     key: &RowKey,
     records: &[Record],
     out: &mut String,
 ) -> Result<(), AllocError>
     ensures { OnOk result (string_bytes out.new
-        ≡ string_bytes out.old ++ records_line names.now key.now records.now) }
+        ≡ string_bytes out.old ++ records_line charset names.now key.now records.now) }
 {
     match records {
         [] => Ok(()),
-        [record] => put_record_line(alloc, names, key, record, out),
-        _ => put_conflict_line(alloc, names, key, records, out),
+        [record] => put_record_line(alloc, charset, names, key, record, out),
+        _ => put_conflict_line(alloc, charset, names, key, records, out),
     }
 }
 
@@ -206,12 +225,14 @@ fn records_in<'a>(knowledge: &'a Knowledge, key: &RowKey) -> &'a [Record]
 pub(crate) fn put_row(
     alloc: Global,
     names: &Names,
+    charsets: &[Option<Charset>],
     knowledge: &Knowledge,
     key: &RowKey,
     out: &mut String,
 ) -> Result<(), AllocError>
     ensures { OnOk result (string_bytes out.new
-        ≡ string_bytes out.old ++ row_line names.now knowledge.now key.now) }
+        ≡ string_bytes out.old ++ row_line names.now charsets.now knowledge.now key.now) }
 {
-    put_records(alloc, names, key, records_in(knowledge, key), out)
+    let charset = charset_at(charsets, key.target);
+    put_records(alloc, charset, names, key, records_in(knowledge, key), out)
 }

@@ -295,7 +295,7 @@ fn lines_of(
     let Ok((knowledge, names)) = loaded else {
         return Err(Unread);
     };
-    match print_json(alloc, knowledge, names, stops, &mut out) {
+    match print_json(alloc, knowledge, names, &[], stops, &mut out) {
         Ok(()) => Ok(out),
         Err(_) => Err(Unread),
     }

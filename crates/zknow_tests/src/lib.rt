@@ -5,6 +5,8 @@
 #[cfg(test)]
 mod calls;
 #[cfg(test)]
+mod charsets;
+#[cfg(test)]
 mod facts;
 #[cfg(test)]
 mod json;

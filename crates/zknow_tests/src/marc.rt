@@ -18,7 +18,7 @@ fn brief_behind(
     let Ok(mut line) = String::from_str(alloc, text) else {
         return Err(AllocError);
     };
-    match put_brief(alloc, octets, format, &mut line) {
+    match put_brief(alloc, octets, format.read_in(None), &mut line) {
         Ok(is) => Ok((line, is)),
         Err(error) => Err(error),
     }

@@ -93,6 +93,7 @@ pub(crate) fn parts_of(
         alloc,
         b"dune & <others>",
         &names,
+        &[],
         stops,
         &knowledge,
         &mut out,

@@ -174,7 +174,7 @@ fn view_of(
     let Ok((knowledge, names)) = loaded else {
         return Err(Unread);
     };
-    match print_titles(alloc, knowledge, names, stops, &mut out) {
+    match print_titles(alloc, knowledge, names, &[], stops, &mut out) {
         Ok(()) => Ok(out),
         Err(_) => Err(Unread),
     }

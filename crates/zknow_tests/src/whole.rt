@@ -229,7 +229,7 @@ fn lines_behind(
     let Ok(mut out) = String::from_str(alloc, text) else {
         return Err(AllocError);
     };
-    match put_lines(alloc, octets, format, &mut out) {
+    match put_lines(alloc, octets, format.read_in(None), &mut out) {
         Ok(is) => Ok((out, is)),
         Err(error) => Err(error),
     }
@@ -266,7 +266,7 @@ fn fields_of(alloc: Global, loaded: &Loaded, before: &str) -> Result<Vec<u8>, Un
     let Ok((knowledge, names)) = loaded else {
         return Err(Unread);
     };
-    match print_fields(alloc, knowledge, names, &[], &mut out) {
+    match print_fields(alloc, knowledge, names, &[], &[], &mut out) {
         Ok(()) => Ok(out),
         Err(_) => Err(Unread),
     }

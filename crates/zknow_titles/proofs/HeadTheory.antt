@@ -9,6 +9,7 @@ use Rattle.std.proofs.lemmas.List.Elements.{All-head, All-tail}
 use Rattle.zknow.specs.declared.fact.Fact.{Fact}
 use Rattle.zknow.specs.declared.tables.keys.RowKey.{RowKey}
 use Rattle.zknow.specs.declared.tables.keys.SetKey.{SetKey}
+use Rattle.zmarc.specs.declared.charset.Charset.{Charset}
 use Rattle.zknow_stops.specs.declared.stop.Stop.{Stop}
 use Rattle.zknow_titles.specs.declared.wholes.Extent.{Extent}
 use Rattle.zknow_titles.specs.declared.wholes.Extent.TheVariants.{Title, Whole}
@@ -64,18 +65,20 @@ quiet_head shown facts target (None ∷ stops) sets h =
     ∙ ap (map (block_line shown facts)) (take-append-drop n sets)
 quiet_head shown facts target (Some s ∷ stops) sets h = absurd (true≢false (All-head IsNone (Some s) stops h))
 
-quiet_either_way : (extent : Extent) (names : List (List ℕ)) (stops : List (Option Stop)) (facts : List Fact)
-    → AreQuiet stops → view extent names stops facts ≡ view extent names [] facts
-quiet_either_way extent names stops facts h =
+quiet_either_way : (extent : Extent) (names : List (List ℕ)) (charsets : List (Option Charset))
+    (stops : List (Option Stop)) (facts : List Fact) → AreQuiet stops
+    → view extent names charsets stops facts ≡ view extent names charsets [] facts
+quiet_either_way extent names charsets stops facts h =
     let shown = shown_names names in
     let rows = rows_of facts in
-    ap (λ head. ended (head ++ between head rows ++ flat_map (row_lines extent (widths shown rows) shown facts) rows))
+    ap (λ head. ended (head ++ between head rows
+    ++ flat_map (row_lines extent (widths shown rows) shown charsets facts) rows))
     (quiet_head shown facts 0 stops (sets_of facts) h)
 
 pub quiet_view : QuietLaw
 unfolding titles
-quiet_view names stops facts h = quiet_either_way Title names stops facts h
+quiet_view names charsets stops facts h = quiet_either_way Title names charsets stops facts h
 
 pub quiet_records : QuietRecordsLaw
 unfolding whole_records
-quiet_records names stops facts h = quiet_either_way Whole names stops facts h
+quiet_records names charsets stops facts h = quiet_either_way Whole names charsets stops facts h

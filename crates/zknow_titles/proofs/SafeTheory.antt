@@ -21,11 +21,12 @@ use Rattle.zapdu.specs.declared.productions.external.External.{External}
 use Rattle.zapdu.specs.declared.productions.record.Record.{Record}
 use Rattle.zapdu.specs.declared.productions.record.RecordBody.{RecordBody}
 use Rattle.zapdu.specs.declared.productions.record.RecordBody.TheVariants.{Retrieval, Surrogate, Fragment}
+use Rattle.zmarc.specs.declared.charset.Charset.{Charset}
 use Rattle.zmarc.specs.declared.charset.Charset.TheVariants.{Utf8}
-use Rattle.zmarc.specs.declared.format.Format.{Format}
 use Rattle.zmarc.specs.declared.format.Format.TheVariants.{Marc21, Unimarc}
-use Rattle.zmarc.specs.Briefs.{brief}
-use Rattle.zmarc.specs.Charsets.{text}
+use Rattle.zmarc.specs.declared.format.Reading.{Reading}
+use Rattle.zmarc.specs.Briefs.{brief, read_in}
+use Rattle.zmarc.specs.Charsets.{charset_at, text}
 use Rattle.zmarc.specs.Records.{is_record}
 use Rattle.zmarc.specs.Shown.{IsSafe, IsSafeText}
 use Rattle.zmarc.specs.Years.{year}
@@ -52,7 +53,7 @@ use Rattle.zknow_titles.specs.Heads.{stop_line, then_words, if_last, lines_then,
 use Rattle.zknow_titles.specs.Laws.{IsSafeView}
 use Rattle.zknow_titles.specs.Names.{shown_names, name_or_number, label}
 use Rattle.zknow_titles.specs.Rows.{row_name, position_width, row_head, row_entry, further_entry, below_row, copy_rows, below_rows, further_lines, several, record_lines, row_lines, widths}
-use Rattle.zknow_titles.specs.Sutrs.{behind_gap, squeezed, shortened, sutrs_line}
+use Rattle.zknow_titles.specs.Sutrs.{behind_gap, squeezed, shortened, text_charset, sutrs_line}
 use Rattle.zknow_titles.specs.Titles.{between, title_lines, view, titles, whole_records, sets_of, rows_of}
 use Rattle.zknow_titles.specs.Wholes.{whole_lines}
 use Rattle.zknow_titles.proofs.SafeTexts.{characters_safe, safe_characters, space_safe, nothing_safe, both_safe, either_safe, printable_safe, literal_safe, spaces_safe, ellipsis_safe, decimal_safe, signed_safe, dotted_safe, none_safe, one_safe, all_either, all_map, all_flat}
@@ -144,11 +145,12 @@ shortened_safe most cs h =
     either_safe (leb (length cs) most) (characters_safe cs h)
     (both_safe (characters_safe _ (All-take IsSafe most cs h)) ellipsis_safe)
 
-sutrs_safe : (octets : List ℕ) → IsSafeText (sutrs_line octets)
+sutrs_safe : (charset : Option Charset) (octets : List ℕ) → IsSafeText (sutrs_line charset octets)
 unfolding sutrs_line
-sutrs_safe octets =
-    shortened_safe 200 (squeezed false false (chars (text Utf8 octets)))
-    (squeezed_safe false false (chars (text Utf8 octets)) (safe_characters (text_is_safe Utf8 octets)))
+sutrs_safe charset octets =
+    let set = text_charset charset in
+    shortened_safe 200 (squeezed false false (chars (text set octets)))
+    (squeezed_safe false false (chars (text set octets)) (safe_characters (text_is_safe set octets)))
 
 -- ---- entries
 
@@ -174,51 +176,55 @@ either_entry : (b : Bool) {x y : EntryText} → IsSafeEntry x → IsSafeEntry y 
 either_entry true first then = first
 either_entry false first then = then
 
-marc_safe : (format : Format) (octets : List ℕ) → IsSafeEntry (marc_entry format octets)
-marc_safe format octets =
-    let line = brief_is_safe format octets in
+marc_safe : (reading : Reading) (octets : List ℕ) → IsSafeEntry (marc_entry reading octets)
+marc_safe reading octets =
+    let line = brief_is_safe reading octets in
     either_entry (is_record octets)
     (record {
-      year = text_is_safe Utf8 (unwrap_or (year format octets) []);
-      line = either_safe (length (brief format octets) == 0)
+      year = text_is_safe Utf8 (unwrap_or (year reading.format octets) []);
+      line = either_safe (length (brief reading octets) == 0)
           (both_safe (literal_safe (codes "no title") refl) (count_safe (length octets))) line;
     })
     (plain_safe (both_safe (literal_safe (codes "no record") refl) (count_safe (length octets))))
 
-octets_safe : (direct : Option (List ℕ)) (syntax octets : List ℕ) → IsSafeEntry (octets_entry direct syntax octets)
-octets_safe direct syntax octets =
-    either_entry (bytes_eq syntax sutrs) (plain_safe (sutrs_safe octets))
-    (either_entry (bytes_eq syntax xml) (plain_safe (both_safe (literal_safe (codes "XML") refl)
-    (count_safe (length octets))))
-    (either_entry (bytes_eq syntax unimarc) (marc_safe Unimarc octets)
-    (either_entry (is_marc syntax || is_record octets) (marc_safe Marc21 octets) (other_safe direct (length octets)))))
+module _ (charset : Option Charset) where
+  octets_safe : (direct : Option (List ℕ)) (syntax octets : List ℕ)
+      → IsSafeEntry (octets_entry charset direct syntax octets)
+  octets_safe direct syntax octets =
+      either_entry (bytes_eq syntax sutrs) (plain_safe (sutrs_safe charset octets))
+      (either_entry (bytes_eq syntax xml) (plain_safe (both_safe (literal_safe (codes "XML") refl)
+      (count_safe (length octets))))
+      (either_entry (bytes_eq syntax unimarc) (marc_safe (read_in Unimarc charset) octets)
+      (either_entry (is_marc syntax || is_record octets) (marc_safe (read_in Marc21 charset) octets)
+      (other_safe direct (length octets)))))
 
-element_safe : (direct : Option (List ℕ)) (syntax : List ℕ) (e : Element) → IsSafeEntry (element_entry direct syntax e)
-element_safe direct syntax e =
-    either_entry (bytes_eq syntax sutrs && is_string e) (plain_safe (sutrs_safe (string_octets e)))
-    (other_safe direct (length (canonical e)))
+  element_safe : (direct : Option (List ℕ)) (syntax : List ℕ) (e : Element)
+      → IsSafeEntry (element_entry charset direct syntax e)
+  element_safe direct syntax e =
+      either_entry (bytes_eq syntax sutrs && is_string e) (plain_safe (sutrs_safe charset (string_octets e)))
+      (other_safe direct (length (canonical e)))
 
-content_safe : (direct : Option (List ℕ)) (content : Content) → IsSafeEntry (content_entry direct content)
-content_safe direct (Single e) = element_safe direct (unwrap_or direct []) e
-content_safe direct (Aligned octets) = octets_safe direct (unwrap_or direct []) octets
-content_safe direct (Arbitrary bits) = plain_safe (both_safe (syntax_safe direct)
-    (literal_safe (codes ", in bits") refl))
+  content_safe : (direct : Option (List ℕ)) (content : Content) → IsSafeEntry (content_entry charset direct content)
+  content_safe direct (Single e) = element_safe direct (unwrap_or direct []) e
+  content_safe direct (Aligned octets) = octets_safe direct (unwrap_or direct []) octets
+  content_safe direct (Arbitrary bits) = plain_safe (both_safe (syntax_safe direct)
+      (literal_safe (codes ", in bits") refl))
 
-body_safe : (body : RecordBody) → IsSafeEntry (body_entry body)
-body_safe (Retrieval v) = content_safe v.direct v.content
-body_safe (Surrogate d) = plain_safe (both_safe (literal_safe (codes "not shown: ") refl) (diag_safe d))
-body_safe (Fragment e) = plain_safe (literal_safe (codes "a part of a record") refl)
+  body_safe : (body : RecordBody) → IsSafeEntry (body_entry charset body)
+  body_safe (Retrieval v) = content_safe v.direct v.content
+  body_safe (Surrogate d) = plain_safe (both_safe (literal_safe (codes "not shown: ") refl) (diag_safe d))
+  body_safe (Fragment e) = plain_safe (literal_safe (codes "a part of a record") refl)
 
-bibliographic_safe : (found : Option External) → IsSafeEntry (bibliographic_entry found)
-bibliographic_safe None = plain_safe (literal_safe (codes "copies of a record that is not there") refl)
-bibliographic_safe (Some v) = content_safe v.direct v.content
+  bibliographic_safe : (found : Option External) → IsSafeEntry (bibliographic_entry charset found)
+  bibliographic_safe None = plain_safe (literal_safe (codes "copies of a record that is not there") refl)
+  bibliographic_safe (Some v) = content_safe v.direct v.content
 
-with_safe : (r : Record) (o : Option OpacRecord) → IsSafeEntry (entry_with r o)
-with_safe r None = body_safe r.body
-with_safe r (Some o) = bibliographic_safe o.bibliographic
+  with_safe : (r : Record) (o : Option OpacRecord) → IsSafeEntry (entry_with charset r o)
+  with_safe r None = body_safe r.body
+  with_safe r (Some o) = bibliographic_safe o.bibliographic
 
-entry_safe : (r : Record) → IsSafeEntry (entry r)
-entry_safe r = with_safe r (opac_of r)
+  entry_safe : (r : Record) → IsSafeEntry (entry charset r)
+  entry_safe r = with_safe r (opac_of r)
 
 -- ---- lists of texts
 
@@ -348,8 +354,8 @@ targets_safe names facts target (s ∷ stops) sets =
 text_safe : (e : EntryText) → IsSafeEntry e → IsSafeText (row_entry e)
 text_safe e s = both_safe (both_safe (padded_safe 4 e.year s.year) (literal_safe (codes "  ") refl)) s.line
 
-row_entry_safe : (r : Record) → IsSafeText (row_entry (entry r))
-row_entry_safe r = text_safe (entry r) (entry_safe r)
+row_entry_safe : (charset : Option Charset) (r : Record) → IsSafeText (row_entry (entry charset r))
+row_entry_safe charset r = text_safe (entry charset r) (entry_safe charset r)
 
 further_safe : (w : Widths) (e : EntryText) → IsSafeEntry e → IsSafeText (further_entry w e)
 further_safe w e s = both_safe (both_safe (both_safe (spaces_safe 6) (spaces_safe w.position)) (spaces_safe w.name))
@@ -366,30 +372,32 @@ copies_safe : (w : Widths) (o : Option OpacRecord) → All IsSafeText (copy_rows
 copies_safe w None = none_safe
 copies_safe w (Some o) = all_copies w (copies_of (Some o)) (lines_are_safe o)
 
-below_safe : (extent : Extent) (w : Widths) (r : Record) (o : Option OpacRecord) → All IsSafeText (below_rows extent w r o)
-below_safe extent w r o =
-    All-append IsSafeText (map (below_row w) (whole_lines extent r o)) (copy_rows w o)
-    (all_copies w (whole_lines extent r o) (whole_lines_safe extent r o)) (copies_safe w o)
+below_safe : (extent : Extent) (charset : Option Charset) (w : Widths) (r : Record) (o : Option OpacRecord)
+    → All IsSafeText (below_rows extent charset w r o)
+below_safe extent charset w r o =
+    All-append IsSafeText (map (below_row w) (whole_lines extent charset r o)) (copy_rows w o)
+    (all_copies w (whole_lines extent charset r o) (whole_lines_safe extent charset r o)) (copies_safe w o)
 
 -- ---- the lines of a row
 
-further_lines_safe : (extent : Extent) (w : Widths) (r : Record) → All IsSafeText (further_lines extent w r)
-further_lines_safe extent w r =
-    All-cons IsSafeText (further_entry w (entry r)) (below_rows extent w r (opac_of r))
-    (further_safe w (entry r) (entry_safe r)) (below_safe extent w r (opac_of r))
+further_lines_safe : (extent : Extent) (charset : Option Charset) (w : Widths) (r : Record)
+    → All IsSafeText (further_lines extent charset w r)
+further_lines_safe extent charset w r =
+    All-cons IsSafeText (further_entry w (entry charset r)) (below_rows extent charset w r (opac_of r))
+    (further_safe w (entry charset r) (entry_safe charset r)) (below_safe extent charset w r (opac_of r))
 
-lines_safe : (extent : Extent) (w : Widths) (head : List ℕ) (records : List Record) → IsSafeText head
-    → All IsSafeText (record_lines extent w head records)
-lines_safe extent w head [] s = none_safe
-lines_safe extent w head (r ∷ []) s =
-    All-cons IsSafeText (head ++ row_entry (entry r)) (below_rows extent w r (opac_of r)) (both_safe s (row_entry_safe r))
-    (below_safe extent w r (opac_of r))
-lines_safe extent w head (r ∷ q ∷ rest) s =
+lines_safe : (extent : Extent) (charset : Option Charset) (w : Widths) (head : List ℕ) (records : List Record)
+    → IsSafeText head → All IsSafeText (record_lines extent charset w head records)
+lines_safe extent charset w head [] s = none_safe
+lines_safe extent charset w head (r ∷ []) s =
+    All-cons IsSafeText (head ++ row_entry (entry charset r)) (below_rows extent charset w r (opac_of r))
+    (both_safe s (row_entry_safe charset r)) (below_safe extent charset w r (opac_of r))
+lines_safe extent charset w head (r ∷ q ∷ rest) s =
     let count = length (r ∷ q ∷ rest) in
-    All-cons IsSafeText (several head count) (flat_map (further_lines extent w) (r ∷ q ∷ rest))
+    All-cons IsSafeText (several head count) (flat_map (further_lines extent charset w) (r ∷ q ∷ rest))
     (both_safe (both_safe (both_safe s (literal_safe (codes "      ") refl)) (decimal_safe count))
     (literal_safe (codes " different records") refl))
-    (all_flat (further_lines extent w) (further_lines_safe extent w) (r ∷ q ∷ rest))
+    (all_flat (further_lines extent charset w) (further_lines_safe extent charset w) (r ∷ q ∷ rest))
 
 head_safe : (w : Widths) (names : List (List ℕ)) (k : RowKey) → IsSafeText (row_head w (shown_names names) k)
 head_safe w names k =
@@ -399,40 +407,45 @@ head_safe w names k =
     both_safe (both_safe (both_safe (both_safe (both_safe gap (spaces_safe (w.position - position_width k)))
     (signed_safe k.position)) gap) name) gap
 
-row_safe : (extent : Extent) (w : Widths) (names : List (List ℕ)) (facts : List Fact) (k : RowKey)
-    → All IsSafeText (row_lines extent w (shown_names names) facts k)
-row_safe extent w names facts k =
-    lines_safe extent w (row_head w (shown_names names) k) (records_at k.target k.set k.position facts) (head_safe w names k)
+row_safe : (extent : Extent) (w : Widths) (names : List (List ℕ)) (charsets : List (Option Charset)) (facts : List Fact)
+    (k : RowKey) → All IsSafeText (row_lines extent w (shown_names names) charsets facts k)
+row_safe extent w names charsets facts k =
+    lines_safe extent (charset_at charsets k.target) w (row_head w (shown_names names) k)
+    (records_at k.target k.set k.position facts) (head_safe w names k)
 
 -- ---- the view
 
 between_safe : (head : List (List ℕ)) (rows : List RowKey) → All IsSafeText (between head rows)
 between_safe head rows = all_either (length head == 0 || length rows == 0) _ _ none_safe (one_safe nothing_safe)
 
-title_lines_safe : (extent : Extent) (names : List (List ℕ)) (stops : List (Option Stop)) (facts : List Fact)
+title_lines_safe : (extent : Extent) (names : List (List ℕ)) (charsets : List (Option Charset))
+    (stops : List (Option Stop)) (facts : List Fact)
     (sets : List SetKey) (rows : List RowKey)
-    → All IsSafeText (title_lines extent (shown_names names) stops facts sets rows)
-title_lines_safe extent names stops facts sets rows =
+    → All IsSafeText (title_lines extent (shown_names names) charsets stops facts sets rows)
+title_lines_safe extent names charsets stops facts sets rows =
     let w = widths (shown_names names) rows in
     let head = head_lines (shown_names names) facts 0 stops sets in
-    All-append IsSafeText _ (flat_map (row_lines extent w (shown_names names) facts) rows)
+    All-append IsSafeText _ (flat_map (row_lines extent w (shown_names names) charsets facts) rows)
     (All-append IsSafeText head (between head rows) (targets_safe names facts 0 stops sets) (between_safe head rows))
-    (all_flat (row_lines extent w (shown_names names) facts) (row_safe extent w names facts) rows)
+    (all_flat (row_lines extent w (shown_names names) charsets facts) (row_safe extent w names charsets facts) rows)
 
-safe_either_way : (extent : Extent) (names : List (List ℕ)) (stops : List (Option Stop)) (facts : List Fact)
-    → IsSafeView (view extent names stops facts)
-safe_either_way extent names stops facts = record {
-  lines = title_lines extent (shown_names names) stops facts (sets_of facts) (rows_of facts);
+safe_either_way : (extent : Extent) (names : List (List ℕ)) (charsets : List (Option Charset))
+    (stops : List (Option Stop)) (facts : List Fact)
+    → IsSafeView (view extent names charsets stops facts)
+safe_either_way extent names charsets stops facts = record {
+  lines = title_lines extent (shown_names names) charsets stops facts (sets_of facts) (rows_of facts);
   made = refl;
-  safe = title_lines_safe extent names stops facts (sets_of facts) (rows_of facts);
+  safe = title_lines_safe extent names charsets stops facts (sets_of facts) (rows_of facts);
 }
 
-pub view_is_safe : (names : List (List ℕ)) (stops : List (Option Stop)) (facts : List Fact)
-    → IsSafeView (titles names stops facts)
+pub view_is_safe : (names : List (List ℕ)) (charsets : List (Option Charset))
+    (stops : List (Option Stop)) (facts : List Fact)
+    → IsSafeView (titles names charsets stops facts)
 unfolding titles
-view_is_safe names stops facts = safe_either_way Title names stops facts
+view_is_safe names charsets stops facts = safe_either_way Title names charsets stops facts
 
-pub records_are_safe : (names : List (List ℕ)) (stops : List (Option Stop)) (facts : List Fact)
-    → IsSafeView (whole_records names stops facts)
+pub records_are_safe : (names : List (List ℕ)) (charsets : List (Option Charset))
+    (stops : List (Option Stop)) (facts : List Fact)
+    → IsSafeView (whole_records names charsets stops facts)
 unfolding whole_records
-records_are_safe names stops facts = safe_either_way Whole names stops facts
+records_are_safe names charsets stops facts = safe_either_way Whole names charsets stops facts

@@ -14,11 +14,13 @@ use Rattle.zapdu.specs.declared.productions.external.External.{External}
 use Rattle.zapdu.specs.declared.productions.record.RecordBody.{RecordBody}
 use Rattle.zapdu.specs.declared.productions.record.RecordBody.TheVariants.{Retrieval, Surrogate, Fragment}
 use Rattle.zapdu.specs.declared.productions.record.Record.{Record}
+use Rattle.zmarc.specs.declared.charset.Charset.{Charset}
 use Rattle.zmarc.specs.declared.charset.Charset.TheVariants.{Utf8}
 use Rattle.zmarc.specs.declared.format.Format.{Format}
 use Rattle.zmarc.specs.declared.format.Format.TheVariants.{Marc21, Unimarc}
+use Rattle.zmarc.specs.declared.format.Reading.{Reading}
 use Rattle.zmarc.specs.Charsets.{text}
-use Rattle.zmarc.specs.Briefs.{brief}
+use Rattle.zmarc.specs.Briefs.{brief, read_in}
 use Rattle.zmarc.specs.Records.{is_record}
 use Rattle.zmarc.specs.Years.{year}
 use Rattle.zopac.specs.declared.opac.OpacRecord.{OpacRecord}
@@ -87,28 +89,28 @@ abbrev pub titled : List ℕ → List ℕ → List ℕ
 titled octets line = if length line == 0 then codes "no title" ++ counted_octets (length octets) else line
 
 -- a record of MARC
-abbrev pub marc_entry : Format → List ℕ → EntryText
-marc_entry format octets =
-    if is_record octets then texts (year_text format octets) (titled octets (brief format octets))
+abbrev pub marc_entry : Reading → List ℕ → EntryText
+marc_entry reading octets =
+    if is_record octets then texts (year_text reading.format octets) (titled octets (brief reading octets))
     else plain (codes "no record" ++ counted_octets (length octets))
 
 -- a record of SUTRS
-abbrev pub sutrs_entry : List ℕ → EntryText
-sutrs_entry octets = plain (sutrs_line octets)
+abbrev pub sutrs_entry : Option Charset → List ℕ → EntryText
+sutrs_entry charset octets = plain (sutrs_line charset octets)
 
--- octets of a syntax
-abbrev pub octets_entry : Option (List ℕ) → List ℕ → List ℕ → EntryText
-octets_entry direct syntax octets =
-    if bytes_eq syntax sutrs then sutrs_entry octets
+-- octets of a syntax; the character set of the target's records may be known
+abbrev pub octets_entry : Option Charset → Option (List ℕ) → List ℕ → List ℕ → EntryText
+octets_entry charset direct syntax octets =
+    if bytes_eq syntax sutrs then sutrs_entry charset octets
     else if bytes_eq syntax xml then plain (codes "XML" ++ counted_octets (length octets))
-    else if bytes_eq syntax unimarc then marc_entry Unimarc octets
-    else if is_marc syntax || is_record octets then marc_entry Marc21 octets
+    else if bytes_eq syntax unimarc then marc_entry (read_in Unimarc charset) octets
+    else if is_marc syntax || is_record octets then marc_entry (read_in Marc21 charset) octets
     else other_entry direct (length octets)
 
 -- an element of a syntax: text of SUTRS, or another
-abbrev pub element_entry : Option (List ℕ) → List ℕ → Element → EntryText
-element_entry direct syntax e =
-    if bytes_eq syntax sutrs && is_string e then sutrs_entry (string_octets e)
+abbrev pub element_entry : Option Charset → Option (List ℕ) → List ℕ → Element → EntryText
+element_entry charset direct syntax e =
+    if bytes_eq syntax sutrs && is_string e then sutrs_entry charset (string_octets e)
     else other_entry direct (length (canonical e))
 
 -- bits of a syntax
@@ -116,20 +118,20 @@ abbrev pub bits_entry : Option (List ℕ) → EntryText
 bits_entry direct = plain (syntax_text direct ++ codes ", in bits")
 
 -- a record in a syntax
-abbrev pub content_entry : Option (List ℕ) → Content → EntryText
-content_entry direct (Single e) = element_entry direct (unwrap_or direct []) e
-content_entry direct (Aligned octets) = octets_entry direct (unwrap_or direct []) octets
-content_entry direct (Arbitrary bits) = bits_entry direct
+abbrev pub content_entry : Option Charset → Option (List ℕ) → Content → EntryText
+content_entry charset direct (Single e) = element_entry charset direct (unwrap_or direct []) e
+content_entry charset direct (Aligned octets) = octets_entry charset direct (unwrap_or direct []) octets
+content_entry charset direct (Arbitrary bits) = bits_entry direct
 
 -- what stands in the place of a record
 abbrev pub diag_entry : DiagRec → EntryText
 diag_entry d = plain (codes "not shown: " ++ diag_words d)
 
 -- a record by its content, a diagnostic in its place by its words, and a fragment as a part of a record
-abbrev pub body_entry : RecordBody → EntryText
-body_entry (Retrieval v) = content_entry v.direct v.content
-body_entry (Surrogate d) = diag_entry d
-body_entry (Fragment e) = plain (codes "a part of a record")
+abbrev pub body_entry : Option Charset → RecordBody → EntryText
+body_entry charset (Retrieval v) = content_entry charset v.direct v.content
+body_entry charset (Surrogate d) = diag_entry d
+body_entry charset (Fragment e) = plain (codes "a part of a record")
 
 -- ---- records with copies
 
@@ -150,18 +152,18 @@ abbrev pub opac_of : Record → Option OpacRecord
 opac_of r = opac_in r.body
 
 -- a bibliographic record by its content
-abbrev pub bibliographic_entry : Option External → EntryText
-bibliographic_entry None = plain (codes "copies of a record that is not there")
-bibliographic_entry (Some v) = content_entry v.direct v.content
+abbrev pub bibliographic_entry : Option Charset → Option External → EntryText
+bibliographic_entry charset None = plain (codes "copies of a record that is not there")
+bibliographic_entry charset (Some v) = content_entry charset v.direct v.content
 
 -- a record, or what stands in its place: of a record with its copies the bibliographic record
-abbrev pub entry_with : Record → Option OpacRecord → EntryText
-entry_with r None = body_entry r.body
-entry_with r (Some o) = bibliographic_entry o.bibliographic
+abbrev pub entry_with : Option Charset → Record → Option OpacRecord → EntryText
+entry_with charset r None = body_entry charset r.body
+entry_with charset r (Some o) = bibliographic_entry charset o.bibliographic
 
 -- a record, or what stands in its place
-abbrev pub entry : Record → EntryText
-entry r = entry_with r (opac_of r)
+abbrev pub entry : Option Charset → Record → EntryText
+entry charset r = entry_with charset r (opac_of r)
 
 -- the lines of a record's copies
 abbrev pub copies_of : Option OpacRecord → List (List ℕ)

@@ -1,5 +1,6 @@
 -- The view is safe to print on a terminal, and its names take at most 24 columns there.
 use Rattle.std.specs.Prelude.{◌≡◌, ◌≤◌, ℕ, Option, IsNone, List, [], All}
+use Rattle.zmarc.specs.declared.charset.Charset.{Charset}
 use Rattle.zmarc.specs.Shown.{IsSafeText}
 use Rattle.zknow.specs.declared.fact.Fact.{Fact}
 use Rattle.zknow.specs.declared.tables.keys.RowKey.{RowKey}
@@ -17,16 +18,17 @@ pub record IsSafeView (octets : List ℕ) : Type 0 where
   pub made : ended lines ≡ octets
   pub safe : All IsSafeText lines
 
--- whatever the records, the names, the diagnostics and the stops are
+-- whatever the records, the names, the character sets, the diagnostics and the stops are
 abbrev pub SafeLaw : Type 0
 SafeLaw =
-    (names : List (List ℕ)) (stops : List (Option Stop)) (facts : List Fact) → IsSafeView (titles names stops facts)
+    (names : List (List ℕ)) (charsets : List (Option Charset)) (stops : List (Option Stop)) (facts : List Fact)
+    → IsSafeView (titles names charsets stops facts)
 
 -- the same with whole records
 abbrev pub SafeRecordsLaw : Type 0
 SafeRecordsLaw =
-    (names : List (List ℕ)) (stops : List (Option Stop)) (facts : List Fact)
-    → IsSafeView (whole_records names stops facts)
+    (names : List (List ℕ)) (charsets : List (Option Charset)) (stops : List (Option Stop)) (facts : List Fact)
+    → IsSafeView (whole_records names charsets stops facts)
 
 -- ---- stops
 
@@ -37,14 +39,14 @@ AreQuiet stops = All IsNone stops
 -- then the view is that of no stops
 abbrev pub QuietLaw : Type 0
 QuietLaw =
-    (names : List (List ℕ)) (stops : List (Option Stop)) (facts : List Fact) → AreQuiet stops
-    → titles names stops facts ≡ titles names [] facts
+    (names : List (List ℕ)) (charsets : List (Option Charset)) (stops : List (Option Stop)) (facts : List Fact)
+    → AreQuiet stops → titles names charsets stops facts ≡ titles names charsets [] facts
 
 -- the same with whole records
 abbrev pub QuietRecordsLaw : Type 0
 QuietRecordsLaw =
-    (names : List (List ℕ)) (stops : List (Option Stop)) (facts : List Fact) → AreQuiet stops
-    → whole_records names stops facts ≡ whole_records names [] facts
+    (names : List (List ℕ)) (charsets : List (Option Charset)) (stops : List (Option Stop)) (facts : List Fact)
+    → AreQuiet stops → whole_records names charsets stops facts ≡ whole_records names charsets [] facts
 
 -- ---- columns of a terminal
 

@@ -6,6 +6,8 @@ use Rattle.zapdu.specs.declared.productions.record.Record.{Record}
 use Rattle.zknow.specs.declared.fact.Fact.{Fact}
 use Rattle.zknow.specs.declared.tables.keys.RowKey.{RowKey}
 use Rattle.zknow.specs.Known.{records_at}
+use Rattle.zmarc.specs.declared.charset.Charset.{Charset}
+use Rattle.zmarc.specs.Charsets.{charset_at}
 use Rattle.zopac.specs.declared.opac.OpacRecord.{OpacRecord}
 use Rattle.zknow_titles.specs.declared.rows.Widths.{Widths}
 use Rattle.zknow_titles.specs.declared.wholes.Extent.{Extent}
@@ -64,25 +66,27 @@ abbrev pub copy_rows : Widths → Option OpacRecord → List (List ℕ)
 copy_rows w o = map (below_row w) (copies_of o)
 
 -- what stands below the line of a record: the whole record, if it is shown, and its copies
-abbrev pub below_rows : Extent → Widths → Record → Option OpacRecord → List (List ℕ)
-below_rows extent w r o = map (below_row w) (whole_lines extent r o) ++ copy_rows w o
+abbrev pub below_rows : Extent → Option Charset → Widths → Record → Option OpacRecord → List (List ℕ)
+below_rows extent charset w r o = map (below_row w) (whole_lines extent charset r o) ++ copy_rows w o
 
 -- a further record of a row, below the first line, and what stands below that
-abbrev pub further_lines : Extent → Widths → Record → List (List ℕ)
-further_lines extent w r = further_entry w (entry r) ∷ below_rows extent w r (opac_of r)
+abbrev pub further_lines : Extent → Option Charset → Widths → Record → List (List ℕ)
+further_lines extent charset w r = further_entry w (entry charset r) ∷ below_rows extent charset w r (opac_of r)
 
 -- how many records a row has, where it has several
 abbrev pub several : List ℕ → ℕ → List ℕ
 several head count = head ++ codes "      " ++ decimal count ++ codes " different records"
 
 -- a row: the record and what stands below it, or how many records there are and then each
-abbrev pub record_lines : Extent → Widths → List ℕ → List Record → List (List ℕ)
-record_lines extent w head [] = []
-record_lines extent w head (r ∷ []) = (head ++ row_entry (entry r)) ∷ below_rows extent w r (opac_of r)
-record_lines extent w head (r ∷ q ∷ rest) =
-    several head (length (r ∷ q ∷ rest)) ∷ flat_map (further_lines extent w) (r ∷ q ∷ rest)
+abbrev pub record_lines : Extent → Option Charset → Widths → List ℕ → List Record → List (List ℕ)
+record_lines extent charset w head [] = []
+record_lines extent charset w head (r ∷ []) =
+    (head ++ row_entry (entry charset r)) ∷ below_rows extent charset w r (opac_of r)
+record_lines extent charset w head (r ∷ q ∷ rest) =
+    several head (length (r ∷ q ∷ rest)) ∷ flat_map (further_lines extent charset w) (r ∷ q ∷ rest)
 
--- the lines of a row, from all records that are known at its position
-abbrev pub row_lines : Extent → Widths → List (List ℕ) → List Fact → RowKey → List (List ℕ)
-row_lines extent w shown facts k =
-    record_lines extent w (row_head w shown k) (records_at k.target k.set k.position facts)
+-- the lines of a row, from all records that are known at its position, in the character set of the row's target
+abbrev pub row_lines : Extent → Widths → List (List ℕ) → List (Option Charset) → List Fact → RowKey → List (List ℕ)
+row_lines extent w shown charsets facts k =
+    record_lines extent (charset_at charsets k.target) w (row_head w shown k)
+    (records_at k.target k.set k.position facts)

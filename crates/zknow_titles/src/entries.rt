@@ -11,7 +11,7 @@ use bytes::Bytes;
 use std::alloc::{AllocError, Global};
 use zapdu::{Content, DiagRec, External, Record, RecordBody};
 use zber::{Node, Oid, ValueError};
-use zmarc::{Charset, Format, find_year, is_record, put_brief, put_text};
+use zmarc::{Charset, Format, Reading, find_year, is_record, put_brief, put_text};
 use zopac::{OpacRecord, PartError, read_opac};
 
 /// The syntax of UNIMARC.
@@ -128,44 +128,49 @@ fn titled(alloc: Global, octets: &[u8], line: String) -> Result<String, AllocErr
 }
 
 /// Returns the entry of a record of MARC.
-fn marc_entry(alloc: Global, format: Format, octets: &[u8]) -> Result<Entry, AllocError>
-    ensures { IfOk result (λ e. texts (string_bytes e.year) (string_bytes e.line) ≡ marc_entry format octets.now) }
+fn marc_entry(alloc: Global, reading: Reading, octets: &[u8]) -> Result<Entry, AllocError>
+    ensures { IfOk result (λ e. texts (string_bytes e.year) (string_bytes e.line) ≡ marc_entry reading octets.now) }
 {
     let mut brief = String::new(alloc);
-    if !put_brief(alloc, octets, format, &mut brief)? {
+    if !put_brief(alloc, octets, reading, &mut brief)? {
         return counted(alloc, "no record", octets.len());
     }
     let line = titled(alloc, octets, brief)?;
-    let year = year_of(alloc, format, octets)?;
+    let year = year_of(alloc, reading.format, octets)?;
     Ok(Entry { year, line })
 }
 
 /// Returns the entry of a record of SUTRS.
-fn sutrs_entry(alloc: Global, octets: &[u8]) -> Result<Entry, AllocError>
-    ensures { IfOk result (λ e. texts (string_bytes e.year) (string_bytes e.line) ≡ sutrs_entry octets.now) }
+fn sutrs_entry(alloc: Global, charset: Option<Charset>, octets: &[u8]) -> Result<Entry, AllocError>
+    ensures { IfOk result (λ e. texts (string_bytes e.year) (string_bytes e.line) ≡ sutrs_entry charset octets.now) }
 {
     let mut line = String::new(alloc);
-    put_sutrs(alloc, octets, &mut line)?;
+    put_sutrs(alloc, charset, octets, &mut line)?;
     Ok(plain(alloc, line))
 }
 
 /// Returns the entry of octets in a syntax.
-fn octets_entry(alloc: Global, direct: &Option<Oid>, octets: &[u8]) -> Result<Entry, AllocError>
+fn octets_entry(
+    alloc: Global,
+    charset: Option<Charset>,
+    direct: &Option<Oid>,
+    octets: &[u8],
+) -> Result<Entry, AllocError>
     ensures { IfOk result (λ e. texts (string_bytes e.year) (string_bytes e.line)
-        ≡ octets_entry direct.now (unwrap_or direct.now []) octets.now) }
+        ≡ octets_entry charset direct.now (unwrap_or direct.now []) octets.now) }
 {
     let syntax = arcs_of(direct);
     if syntax == SUTRS.as_slice() {
-        return sutrs_entry(alloc, octets);
+        return sutrs_entry(alloc, charset, octets);
     }
     if syntax == XML.as_slice() {
         return counted(alloc, "XML", octets.len());
     }
     if syntax == UNIMARC.as_slice() {
-        return marc_entry(alloc, Format::Unimarc, octets);
+        return marc_entry(alloc, Format::Unimarc.read_in(charset), octets);
     }
     if is_marc(syntax) || is_record(octets) {
-        return marc_entry(alloc, Format::Marc21, octets);
+        return marc_entry(alloc, Format::Marc21.read_in(charset), octets);
     }
     other_entry(alloc, direct, octets.len())
 }
@@ -192,13 +197,18 @@ fn count_canonical(alloc: Global, element: &Node) -> Result<usize, AllocError>
 }
 
 /// Returns the entry of an element in a syntax: text of SUTRS, or another.
-fn element_entry(alloc: Global, direct: &Option<Oid>, element: &Node) -> Result<Entry, AllocError>
+fn element_entry(
+    alloc: Global,
+    charset: Option<Charset>,
+    direct: &Option<Oid>,
+    element: &Node,
+) -> Result<Entry, AllocError>
     ensures { IfOk result (λ e. texts (string_bytes e.year) (string_bytes e.line)
-        ≡ element_entry direct.now (unwrap_or direct.now []) element.now) }
+        ≡ element_entry charset direct.now (unwrap_or direct.now []) element.now) }
 {
     if arcs_of(direct) == SUTRS.as_slice() {
         if let Some(octets) = string_of(alloc, element)? {
-            return sutrs_entry(alloc, octets.as_slice());
+            return sutrs_entry(alloc, charset, octets.as_slice());
         }
     }
     let count = count_canonical(alloc, element)?;
@@ -217,15 +227,16 @@ fn bits_entry(alloc: Global, direct: &Option<Oid>) -> Result<Entry, AllocError>
 /// Returns the entry of a record in a syntax.
 fn content_entry(
     alloc: Global,
+    charset: Option<Charset>,
     direct: &Option<Oid>,
     content: &Content,
 ) -> Result<Entry, AllocError>
     ensures { IfOk result (λ e. texts (string_bytes e.year) (string_bytes e.line)
-        ≡ content_entry direct.now content.now) }
+        ≡ content_entry charset direct.now content.now) }
 {
     match content {
-        Content::Single(element) => element_entry(alloc, direct, element),
-        Content::Aligned(octets) => octets_entry(alloc, direct, octets.as_slice()),
+        Content::Single(element) => element_entry(alloc, charset, direct, element),
+        Content::Aligned(octets) => octets_entry(alloc, charset, direct, octets.as_slice()),
         Content::Arbitrary(_) => bits_entry(alloc, direct),
     }
 }
@@ -283,12 +294,17 @@ pub fn opac_of(alloc: Global, record: &Record) -> Result<Option<OpacRecord>, All
 }
 
 /// Returns what is shown of what the target sent.
-fn body_entry(alloc: Global, body: &RecordBody) -> Result<Entry, AllocError>
-    ensures { IfOk result (λ e. texts (string_bytes e.year) (string_bytes e.line) ≡ body_entry body.now) }
+fn body_entry(
+    alloc: Global,
+    charset: Option<Charset>,
+    body: &RecordBody,
+) -> Result<Entry, AllocError>
+    ensures { IfOk result (λ e. texts (string_bytes e.year) (string_bytes e.line) ≡ body_entry charset body.now) }
 {
     match body {
         RecordBody::Retrieval(external) => content_entry(
             alloc,
+            charset,
             &external.direct,
             &external.content,
         ),
@@ -301,30 +317,37 @@ fn body_entry(alloc: Global, body: &RecordBody) -> Result<Entry, AllocError>
 }
 
 /// Returns what is shown of a bibliographic record.
-fn bibliographic_entry(alloc: Global, found: &Option<External>) -> Result<Entry, AllocError>
-    ensures { IfOk result (λ e. texts (string_bytes e.year) (string_bytes e.line) ≡ bibliographic_entry found.now) }
+fn bibliographic_entry(
+    alloc: Global,
+    charset: Option<Charset>,
+    found: &Option<External>,
+) -> Result<Entry, AllocError>
+    ensures { IfOk result (λ e. texts (string_bytes e.year) (string_bytes e.line)
+        ≡ bibliographic_entry charset found.now) }
 {
     match found {
         None => {
             let line = String::from_str(alloc, "copies of a record that is not there")?;
             Ok(plain(alloc, line))
         }
-        Some(external) => content_entry(alloc, &external.direct, &external.content),
+        Some(external) => content_entry(alloc, charset, &external.direct, &external.content),
     }
 }
 
 /// Returns what is shown of a record, or of what stands in its place; of a record with its copies the bibliographic
-/// record.
+/// record. `charset` is the character set of the target's records, if it is known.
 pub fn entry_with(
     alloc: Global,
+    charset: Option<Charset>,
     record: &Record,
     opac: &Option<OpacRecord>,
 ) -> Result<Entry, AllocError>
-    ensures { IfOk result (λ e. texts (string_bytes e.year) (string_bytes e.line) ≡ entry_with «record».now opac.now) }
+    ensures { IfOk result (λ e. texts (string_bytes e.year) (string_bytes e.line)
+        ≡ entry_with charset «record».now opac.now) }
 {
     match opac {
-        None => body_entry(alloc, &record.body),
-        Some(found) => bibliographic_entry(alloc, &found.bibliographic),
+        None => body_entry(alloc, charset, &record.body),
+        Some(found) => bibliographic_entry(alloc, charset, &found.bibliographic),
     }
 }
 

@@ -1,12 +1,13 @@
 //! Laws of the definitions, each the contract of a function that does nothing.
 ghost use Rattle.zknow_titles.specs.Laws.{SafeLaw, SafeRecordsLaw, QuietLaw, QuietRecordsLaw, NamesLaw};
 
-/// The view is safe to print on a terminal, whatever the names, the stops and the facts are.
+/// The view is safe to print on a terminal, whatever the names, the character sets, the stops and the facts are.
 pub fn safe_law()
     ensures { SafeLaw }
 {}
 
-/// The view with whole records is safe to print on a terminal, whatever the names, the stops and the facts are.
+/// The view with whole records is safe to print on a terminal, whatever the names, the character sets, the stops and
+/// the facts are.
 pub fn safe_records_law()
     ensures { SafeRecordsLaw }
 {}

@@ -17,6 +17,7 @@ use crate::wholes::{Extent, whole_lines};
 use std::alloc::{AllocError, Global};
 use zapdu::Record;
 use zknow::{Knowledge, RowKey};
+use zmarc::{Charset, charset_at};
 use zopac::{Holding, OpacRecord, put_holding};
 
 /// The most columns of a name.
@@ -194,15 +195,16 @@ fn put_copies(
 fn put_below(
     alloc: Global,
     extent: Extent,
+    charset: Option<Charset>,
     w: &Widths,
     record: &Record,
     opac: &Option<OpacRecord>,
     out: &mut Vec<u8>,
 ) -> Result<(), AllocError>
     ensures { OnOk result (out.new.items
-        ≡ out.old.items ++ ended (below_rows extent w.now «record».now opac.now)) }
+        ≡ out.old.items ++ ended (below_rows extent charset w.now «record».now opac.now)) }
 {
-    let lines = whole_lines(alloc, extent, record, opac)?;
+    let lines = whole_lines(alloc, extent, charset, record, opac)?;
     put_below_lines(w, &lines, out)?;
     put_copies(alloc, w, opac, out)
 }
@@ -211,46 +213,50 @@ fn put_below(
 fn put_record(
     alloc: Global,
     extent: Extent,
+    charset: Option<Charset>,
     w: &Widths,
     record: &Record,
     out: &mut Vec<u8>,
 ) -> Result<(), AllocError>
     ensures { OnOk result (out.new.items ≡ out.old.items
-        ++ (ended_line (row_entry (entry «record».now))
-        ++ ended (below_rows extent w.now «record».now (opac_of «record».now)))) }
+        ++ (ended_line (row_entry (entry charset «record».now))
+        ++ ended (below_rows extent charset w.now «record».now (opac_of «record».now)))) }
 {
     let opac = opac_of(alloc, record)?;
-    let entry = entry_with(alloc, record, &opac)?;
+    let entry = entry_with(alloc, charset, record, &opac)?;
     put_texts(entry.year.as_str(), entry.line.as_str(), out)?;
-    put_below(alloc, extent, w, record, &opac, out)
+    put_below(alloc, extent, charset, w, record, &opac, out)
 }
 
 /// Appends lines of its own for a further record of a row.
 fn put_further(
     alloc: Global,
     extent: Extent,
+    charset: Option<Charset>,
     w: &Widths,
     record: &Record,
     out: &mut Vec<u8>,
 ) -> Result<(), AllocError>
-    ensures { OnOk result (out.new.items ≡ out.old.items ++ ended (further_lines extent w.now «record».now)) }
+    ensures { OnOk result (out.new.items ≡ out.old.items ++ ended (further_lines extent charset w.now «record».now)) }
 {
     put_indent(w, out)?;
-    put_record(alloc, extent, w, record, out)
+    put_record(alloc, extent, charset, w, record, out)
 }
 
 /// Appends lines of its own for each record.
 fn put_each(
     alloc: Global,
     extent: Extent,
+    charset: Option<Charset>,
     w: &Widths,
     records: &[Record],
     out: &mut Vec<u8>,
 ) -> Result<(), AllocError>
-    ensures { OnOk result (out.new.items ≡ out.old.items ++ ended (flat_map (further_lines extent w.now) records.now)) }
+    ensures { OnOk result (out.new.items
+        ≡ out.old.items ++ ended (flat_map (further_lines extent charset w.now) records.now)) }
 {
     for record in records {
-        put_further(alloc, extent, w, record, out)?;
+        put_further(alloc, extent, charset, w, record, out)?;
     }
     Ok(())
 }
@@ -275,22 +281,24 @@ fn put_several(
 fn put_records(
     alloc: Global,
     extent: Extent,
+    charset: Option<Charset>,
     w: &Widths,
     head: &[u8],
     records: &[Record],
     out: &mut Vec<u8>,
 ) -> Result<(), AllocError>
-    ensures { OnOk result (out.new.items ≡ out.old.items ++ ended (record_lines extent w.now head.now records.now)) }
+    ensures { OnOk result (out.new.items
+        ≡ out.old.items ++ ended (record_lines extent charset w.now head.now records.now)) }
 {
     match records {
         [] => Ok(()),
         [record] => {
             out.extend_from_slice(head)?;
-            put_record(alloc, extent, w, record, out)
+            put_record(alloc, extent, charset, w, record, out)
         }
         _ => {
             put_several(alloc, head, records.len(), out)?;
-            put_each(alloc, extent, w, records, out)
+            put_each(alloc, extent, charset, w, records, out)
         }
     }
 }
@@ -301,15 +309,18 @@ pub(crate) fn put_row(
     extent: Extent,
     w: &Widths,
     shown: &[String],
+    charsets: &[Option<Charset>],
     knowledge: &Knowledge,
     key: &RowKey,
     out: &mut Vec<u8>,
 ) -> Result<(), AllocError>
     ensures { OnOk result (out.new.items
-        ≡ out.old.items ++ ended (row_lines extent w.now (map string_bytes shown.now) knowledge.now key.now)) }
+        ≡ out.old.items ++ ended (row_lines extent w.now (map string_bytes shown.now) charsets.now knowledge.now
+        key.now)) }
 {
     let mut head = Vec::new(alloc);
     put_head(alloc, w, shown, key, &mut head)?;
     let records = records_of(knowledge, key.target, key.set, &key.position);
-    put_records(alloc, extent, w, &head, records, out)
+    let charset = charset_at(charsets, key.target);
+    put_records(alloc, extent, charset, w, &head, records, out)
 }

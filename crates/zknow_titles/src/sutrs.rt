@@ -1,6 +1,6 @@
 //! Records of SUTRS (Z39.50-2003, Appendix REC): text, shown as one line.
 ghost use Rattle.std.specs.Prelude.{◌≡◌, ◌++◌, ◌==◌, ◌&&◌, false, not, length, OnOk, IfOk, string_bytes};
-ghost use Rattle.zknow_titles.specs.Sutrs.{behind_gap, squeezed, shortened, sutrs_line};
+ghost use Rattle.zknow_titles.specs.Sutrs.{behind_gap, squeezed, shortened, text_charset, sutrs_line};
 
 use crate::characters::{put_chars, read_chars};
 use std::alloc::{AllocError, Global};
@@ -49,13 +49,28 @@ fn put_shortened(most: usize, found: &[char], line: &mut String) -> Result<(), A
     line.push_str("…")
 }
 
+/// Returns the character set that a text is read in: the one that is known of the target's records, else UTF-8.
+pub(crate) fn text_charset(charset: Option<Charset>) -> Charset
+    ensures { result ≡ text_charset charset }
+{
+    match charset {
+        Some(known) => known,
+        None => Charset::Utf8,
+    }
+}
+
 /// Appends the line that is shown of a record.
 #[tactic(auto, unfolding(crate::specs::Sutrs::sutrs_line))]
-pub(crate) fn put_sutrs(alloc: Global, octets: &[u8], line: &mut String) -> Result<(), AllocError>
-    ensures { OnOk result (string_bytes line.new ≡ string_bytes line.old ++ sutrs_line octets.now) }
+pub(crate) fn put_sutrs(
+    alloc: Global,
+    charset: Option<Charset>,
+    octets: &[u8],
+    line: &mut String,
+) -> Result<(), AllocError>
+    ensures { OnOk result (string_bytes line.new ≡ string_bytes line.old ++ sutrs_line charset octets.now) }
 {
     let mut text = String::new(alloc);
-    put_text(alloc, Charset::Utf8, octets, &mut text)?;
+    put_text(alloc, text_charset(charset), octets, &mut text)?;
     let read = read_chars(alloc, text.as_str())?;
     let found = squeeze(alloc, &read)?;
     put_shortened(MOST_CHARACTERS, &found, line)

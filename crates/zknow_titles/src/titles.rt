@@ -13,6 +13,7 @@ use crate::wholes::Extent;
 use std::alloc::{AllocError, Global};
 use zknow::{Knowledge, Names, RowKey, SetKey};
 use zknow_stops::Stop;
+use zmarc::Charset;
 
 /// Appends an empty line where there are a head and rows.
 fn put_between(head: &[u8], rows: &[RowKey], out: &mut Vec<u8>) -> Result<(), AllocError>
@@ -30,15 +31,16 @@ fn put_rows(
     extent: Extent,
     w: &Widths,
     shown: &[String],
+    charsets: &[Option<Charset>],
     knowledge: &Knowledge,
     rows: &[RowKey],
     out: &mut Vec<u8>,
 ) -> Result<(), AllocError>
     ensures { OnOk result (out.new.items ≡ out.old.items
-        ++ ended (flat_map (row_lines extent w.now (map string_bytes shown.now) knowledge.now) rows.now)) }
+        ++ ended (flat_map (row_lines extent w.now (map string_bytes shown.now) charsets.now knowledge.now) rows.now)) }
 {
     for key in rows {
-        put_row(alloc, extent, w, shown, knowledge, key, out)?;
+        put_row(alloc, extent, w, shown, charsets, knowledge, key, out)?;
     }
     Ok(())
 }
@@ -48,6 +50,7 @@ fn put_lines(
     alloc: Global,
     extent: Extent,
     shown: &[String],
+    charsets: &[Option<Charset>],
     knowledge: &Knowledge,
     stops: &[Option<Stop>],
     sets: &[SetKey],
@@ -55,14 +58,14 @@ fn put_lines(
     out: &mut Vec<u8>,
 ) -> Result<(), AllocError>
     ensures { OnOk result (out.new.items
-        ≡ out.old.items ++ ended (title_lines extent (map string_bytes shown.now) stops.now knowledge.now sets.now
-        rows.now)) }
+        ≡ out.old.items ++ ended (title_lines extent (map string_bytes shown.now) charsets.now stops.now knowledge.now
+        sets.now rows.now)) }
 {
     let head = show_head(alloc, shown, knowledge, stops, sets)?;
     out.extend_from_slice(&head)?;
     put_between(&head, rows, out)?;
     let w = find_widths(alloc, shown, rows)?;
-    put_rows(alloc, extent, &w, shown, knowledge, rows, out)
+    put_rows(alloc, extent, &w, shown, charsets, knowledge, rows, out)
 }
 
 /// Returns the view as a text of its own.
@@ -71,16 +74,17 @@ fn view(
     extent: Extent,
     knowledge: &Knowledge,
     names: &Names,
+    charsets: &[Option<Charset>],
     stops: &[Option<Stop>],
 ) -> Result<Vec<u8>, AllocError>
-    ensures { IfOk result (λ text. text.items ≡ view extent names.now stops.now knowledge.now) }
+    ensures { IfOk result (λ text. text.items ≡ view extent names.now charsets.now stops.now knowledge.now) }
 {
     let mut text = Vec::new(alloc);
     let shown = show_names(alloc, names)?;
     let sets = knowledge.sets()?;
     let rows = knowledge.rows()?;
     put_lines(
-        alloc, extent, &shown, knowledge, stops, &sets, &rows, &mut text,
+        alloc, extent, &shown, charsets, knowledge, stops, &sets, &rows, &mut text,
     )?;
     Ok(text)
 }
@@ -94,27 +98,32 @@ fn view(
 /// behind the line of the target's last set. If the target was not reached, or no set of it has a line, they are a line
 /// of its own behind those of its sets.
 ///
+/// Entry `c` of `charsets` is the character set of the records of target `c`, if that is known: MARC records and SUTRS
+/// are read in it, whatever they say themselves. Without it, MARC records are read as `put_brief` of `zmarc` has it,
+/// and SUTRS as UTF-8. Copies are read as UTF-8.
+///
 /// A target has its name in `names`, else `#` and its number. The name of a row takes at most 24 columns of a terminal,
 /// by the widths of `unicode_width`, and is filled up to as many columns as the widest.
 ///
-/// Whatever the names, the stops, the diagnostics and the records are, the text is safe to print on a terminal: its
-/// lines are UTF-8 of safe characters alone (`IsSafeText` of `zmarc`).
+/// Whatever the names, the character sets, the stops, the diagnostics and the records are, the text is safe to print on
+/// a terminal: its lines are UTF-8 of safe characters alone (`IsSafeText` of `zmarc`).
 ///
 /// Returns `AllocError` if no memory is found; nothing is appended.
-#[tactic(auto, unfolding(crate::specs::Titles::titles), using(crate::proofs::SafeTheory::view_is_safe))]
+#[tactic(auto, unfolding(crate::specs::Titles::titles))]
 pub fn print_titles(
     alloc: Global,
     knowledge: &Knowledge,
     names: &Names,
+    charsets: &[Option<Charset>],
     stops: &[Option<Stop>],
     out: &mut Vec<u8>,
 ) -> Result<(), AllocError>
-    ensures ok { OnOk result (out.new.items ≡ out.old.items ++ titles names.now stops.now knowledge.now) }
+    ensures ok { OnOk result (out.new.items ≡ out.old.items ++ titles names.now charsets.now stops.now knowledge.now) }
     ensures err { OnErr result (out.new.items ≡ out.old.items) }
-    ensures safe { IsSafeView (titles names.now stops.now knowledge.now) }
+    ensures safe { IsSafeView (titles names.now charsets.now stops.now knowledge.now) }
     ensures columns { HasNameColumns names.now knowledge.now }
 {
-    let text = view(alloc, Extent::Title, knowledge, names, stops)?;
+    let text = view(alloc, Extent::Title, knowledge, names, charsets, stops)?;
     out.extend_from_slice(&text)
 }
 
@@ -126,22 +135,24 @@ pub fn print_titles(
 /// - Of a record of the syntax OPAC those of its bibliographic record; then, as in `print_titles`, its copies.
 /// - Of others none.
 ///
-/// What `print_titles` says of stops, names and safe text, it says of this view too.
+/// What `print_titles` says of stops, character sets, names and safe text, it says of this view too.
 ///
 /// Returns `AllocError` if no memory is found; nothing is appended.
-#[tactic(auto, unfolding(crate::specs::Titles::whole_records), using(crate::proofs::SafeTheory::records_are_safe))]
+#[tactic(auto, unfolding(crate::specs::Titles::whole_records))]
 pub fn print_fields(
     alloc: Global,
     knowledge: &Knowledge,
     names: &Names,
+    charsets: &[Option<Charset>],
     stops: &[Option<Stop>],
     out: &mut Vec<u8>,
 ) -> Result<(), AllocError>
-    ensures ok { OnOk result (out.new.items ≡ out.old.items ++ whole_records names.now stops.now knowledge.now) }
+    ensures ok { OnOk result (out.new.items
+        ≡ out.old.items ++ whole_records names.now charsets.now stops.now knowledge.now) }
     ensures err { OnErr result (out.new.items ≡ out.old.items) }
-    ensures safe { IsSafeView (whole_records names.now stops.now knowledge.now) }
+    ensures safe { IsSafeView (whole_records names.now charsets.now stops.now knowledge.now) }
     ensures columns { HasNameColumns names.now knowledge.now }
 {
-    let text = view(alloc, Extent::Whole, knowledge, names, stops)?;
+    let text = view(alloc, Extent::Whole, knowledge, names, charsets, stops)?;
     out.extend_from_slice(&text)
 }

@@ -1,6 +1,6 @@
 -- What is shown of a record depends on its fields and its character set, and octets behind it change neither.
 use Rattle.std.proofs.Common.{◌≡◌, ℕ, ◌^◌, ◌<◌, ◌≤◌, cond, Some, List, [], ◌++◌, length, take, refl, sym, ap, ◌∙◌, arith}
-use Rattle.std.specs.Prelude.{◌||◌, map, filter, find, codes}
+use Rattle.std.specs.Prelude.{◌||◌, unwrap_or, map, filter, find, codes}
 use Rattle.std.specs.Option.{option_map, option_and_then}
 use Rattle.std.specs.Str.{byte}
 use Rattle.std.proofs.lemmas.Bool.{le-leb, le-ltb}
@@ -8,6 +8,7 @@ use Rattle.std.proofs.lemmas.List.{append-nil, length-append, get_or_append_left
 use Rattle.std.proofs.Math.Seq.{take-append_seam}
 use Rattle.zmarc.specs.declared.charset.Charset.TheVariants.{Utf8}
 use Rattle.zmarc.specs.declared.format.Format.{Format}
+use Rattle.zmarc.specs.declared.format.Reading.{Reading}
 use Rattle.zmarc.specs.declared.format.Format.TheVariants.{Marc21, Unimarc}
 use Rattle.zmarc.specs.Charsets.{is_utf8_beyond_ascii}
 use Rattle.zmarc.specs.Numbers.{number}
@@ -15,7 +16,7 @@ use Rattle.zmarc.specs.Records.{Field, fields, has_tag, first_field, tagged_fiel
 use Rattle.zmarc.specs.Subfields.{first_subfield, first_given, filled, subfield_in}
 use Rattle.zmarc.specs.Isbns.{isbn_tag, isbn_of_field, isbn_number, labelled_isbn, isbn}
 use Rattle.zmarc.specs.Years.{year_of_field, year_in, year}
-use Rattle.zmarc.specs.Briefs.{title_tag, title_parts, title, heading, maker_code, maker, pieces, names_utf8, declares_utf8, other_charset, charset, joined, brief}
+use Rattle.zmarc.specs.Briefs.{title_tag, title_parts, title, heading, maker_code, maker, pieces, names_utf8, declares_utf8, other_charset, own_charset, charset, joined, brief}
 use Rattle.zmarc.specs.Written.{digits, record_of, AreWritable, TellsLength}
 use Rattle.zmarc.proofs.WrittenTheory.{number_of, fields_before, is_record_before, fields_written, is_record_written, length_written}
 
@@ -98,13 +99,17 @@ module _ (xs more : List ℕ) (long : 24 ≤ length xs) where
 own_alone : (xs : List ℕ) → 24 ≤ length xs → TellsLength xs → own_octets xs ≡ xs
 own_alone xs long t = ap own_octets (sym (append-nil xs)) ∙ own_is xs [] long t
 
-set_same : (format : Format) (xs more : List ℕ) → 24 ≤ length xs → TellsLength xs → fields (xs ++ more) ≡ fields xs
-    → charset format (xs ++ more) ≡ charset format xs
-set_same format xs more long t h =
+own_set_same : (format : Format) (xs more : List ℕ) → 24 ≤ length xs → TellsLength xs → fields (xs ++ more) ≡ fields xs
+    → own_charset format (xs ++ more) ≡ own_charset format xs
+own_set_same format xs more long t h =
     ap (λ d. cond (d || is_utf8_beyond_ascii (own_octets (xs ++ more))) Utf8 (other_charset format))
     (declares_same xs more long format h)
     ∙ ap (λ o. cond (declares_utf8 format xs || is_utf8_beyond_ascii o) Utf8 (other_charset format))
     (own_is xs more long t ∙ sym (own_alone xs long t))
+
+set_same : (reading : Reading) (xs more : List ℕ) → 24 ≤ length xs → TellsLength xs → fields (xs ++ more) ≡ fields xs
+    → charset reading (xs ++ more) ≡ charset reading xs
+set_same reading xs more long t h = ap (unwrap_or reading.charset) (own_set_same reading.format xs more long t h)
 
 -- ---- records that are written, and octets behind them
 
@@ -118,12 +123,12 @@ module _ (status coded : List ℕ) (fs : List Field) (more : List ℕ) (w : AreW
   pub year_behind : (format : Format) → year format (alone ++ more) ≡ year format alone
   year_behind format = years_same (alone ++ more) alone fields_same format
 
-  pub line_behind : (format : Format) → TellsLength alone → length (alone ++ more) < 2 ^ 32
-      → brief format (alone ++ more) ≡ brief format alone
+  pub line_behind : (reading : Reading) → TellsLength alone → length (alone ++ more) < 2 ^ 32
+      → brief reading (alone ++ more) ≡ brief reading alone
   unfolding brief
-  line_behind format t few =
-      let set = set_same format alone more (omega (arith, length_written status coded fs w)) t fields_same in
+  line_behind reading t few =
+      let set = set_same reading alone more (omega (arith, length_written status coded fs w)) t fields_same in
       rw (is_record_before status coded fs more w few)
       (rw (is_record_written status coded fs w)
-      (ap (λ s. joined s [] (pieces format (alone ++ more))) set
-      ∙ ap (joined (charset format alone) []) (same_pieces (alone ++ more) alone fields_same format)))
+      (ap (λ s. joined s [] (pieces reading.format (alone ++ more))) set
+      ∙ ap (joined (charset reading alone) []) (same_pieces (alone ++ more) alone fields_same reading.format)))

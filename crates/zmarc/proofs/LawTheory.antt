@@ -15,11 +15,11 @@ use Rattle.std.proofs.lemmas.Str.{chars-encodes, utf8_lossy-IsUtf8, encodes-IsAs
 use Rattle.unicode_normalization.specs.Forms.{nfc, Nfc}
 use Rattle.unicode_normalization.proofs.FormsLemmas.{normalize-ascii}
 use Rattle.zmarc.specs.declared.charset.Charset.{Charset}
-use Rattle.zmarc.specs.declared.charset.Charset.TheVariants.{Utf8, Marc8, Ascii}
+use Rattle.zmarc.specs.declared.charset.Charset.TheVariants.{Utf8, Marc8, Ascii, Latin1}
 use Rattle.zmarc.specs.declared.marc8.Mode.TheVariants.{Plain, Foreign}
 use Rattle.zmarc.specs.declared.marc8.Step.TheVariants.{Mark, Letter}
 use Rattle.zmarc.specs.Shown.{is_sort_mark, is_white, is_invisible, is_safe, shown, shown_text, IsSafe}
-use Rattle.zmarc.specs.Charsets.{characters, text}
+use Rattle.zmarc.specs.Charsets.{latin1, characters, text}
 use Rattle.zmarc.specs.Marc8.{ascii, meaning, marc8, marc8_from}
 use Rattle.zmarc.specs.Subfields.{Subfield, is_delimiter, parts, subfield_of, subfields}
 use Rattle.zmarc.specs.Laws.{IsPrintable, NoDelimiter, subfield_octets}
@@ -87,6 +87,26 @@ pub stands : (cs : List ℕ) → All IsScalar cs → All IsSafe (nfc cs) → tex
 unfolding text
 stands cs scalar safe = ap (λ l. shown_text (nfc l)) (read_back cs scalar) ∙ shown_as_is (nfc cs) safe
 
+-- ---- ISO 8859-1
+
+-- an octet of a character that is safe is its number
+latin1_one : (x : ℕ) → IsSafe x → latin1 x ≡ x
+latin1_one x s =
+    rw (ne_eqb x 0x88 (λ e. s.no_later_control (omega arith) (omega arith)))
+    (rw (ne_eqb x 0x89 (λ e. s.no_later_control (omega arith) (omega arith))) refl)
+
+latin1_same : (xs : List ℕ) → All IsSafe xs → map latin1 xs ≡ xs
+latin1_same [] h = refl
+latin1_same (x ∷ xs) h =
+    ap (λ y. y ∷ map latin1 xs) (latin1_one x (All-head IsSafe x xs h))
+    ∙ ap (λ l. x ∷ l) (latin1_same xs (All-tail IsSafe x xs h))
+
+pub latin1_stands : (octets : List ℕ) → All IsSafe octets → All IsSafe (nfc octets)
+    → text Latin1 octets ≡ encodes (nfc octets)
+unfolding text
+latin1_stands octets plain safe =
+    ap (λ l. shown_text (nfc l)) (latin1_same octets plain) ∙ shown_as_is (nfc octets) safe
+
 -- ---- printable ASCII
 
 safe_from : (x : ℕ) → IsPrintable x → IsSafe x
@@ -142,6 +162,7 @@ read_stands Utf8 xs h =
     ∙ read_back xs (λ k d inside. (safe_from (get_or xs k d) (h k d inside)).scalar_value)
 read_stands Marc8 xs h = marc8_same xs h
 read_stands Ascii xs h = ascii_same xs h
+read_stands Latin1 xs h = latin1_same xs (all_safe xs h)
 
 pub ascii_stands : (set : Charset) (octets : List ℕ) → All IsPrintable octets → text set octets ≡ octets
 unfolding text

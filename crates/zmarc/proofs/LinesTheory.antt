@@ -5,7 +5,7 @@ use Rattle.std.specs.List.{flat_map, before_first, position_or_len}
 use Rattle.std.proofs.lemmas.List.{append-nil}
 use Rattle.std.proofs.lemmas.List.Elements.{All-head, All-tail}
 use Rattle.zmarc.specs.declared.charset.Charset.{Charset}
-use Rattle.zmarc.specs.declared.format.Format.{Format}
+use Rattle.zmarc.specs.declared.format.Reading.{Reading}
 use Rattle.zmarc.specs.Briefs.{charset}
 use Rattle.zmarc.specs.Charsets.{text}
 use Rattle.zmarc.specs.Laws.{NoDelimiter, subfield_octets, written_lines}
@@ -37,12 +37,12 @@ module _ (status coded : List ℕ) (fs : List Field) (w : AreWritable status cod
       ∙ ap (λ n. head ∷ (map (field_line set) fs ++ lost_lines n)) none_lost
       ∙ ap (λ l. head ∷ l) (append-nil (map (field_line set) fs))
 
-  pub lines_written : (format : Format) → field_lines format whole
-      ≡ written_lines (charset format whole) (leader status coded fs) fs
+  pub lines_written : (reading : Reading) → field_lines reading whole
+      ≡ written_lines (charset reading whole) (leader status coded fs) fs
   unfolding field_lines
-  lines_written format =
-      ap (λ b. cond b (lines_in (charset format whole) whole) []) (is_record_written status coded fs w)
-      ∙ lines_whole (charset format whole)
+  lines_written reading =
+      ap (λ b. cond b (lines_in (charset reading whole) whole) []) (is_record_written status coded fs w)
+      ∙ lines_whole (charset reading whole)
 
 -- ---- fields
 

@@ -3,7 +3,7 @@ use Rattle.std.proofs.Common.{◌≡◌, ℕ, zero, suc, ◌+◌, false, cond, O
 use Rattle.std.specs.List.{filter_map}
 use Rattle.std.specs.Option.{is_none}
 use Rattle.std.proofs.lemmas.List.Sums.{sum_by-cons}
-use Rattle.zmarc.specs.declared.format.Format.{Format}
+use Rattle.zmarc.specs.declared.format.Reading.{Reading}
 use Rattle.zmarc.specs.Records.{is_record, length_digits, start_digits, contents, directory, entry_len, entry_count, entries, octets_of, field_of, fields, lost_count}
 use Rattle.zmarc.specs.Briefs.{brief}
 use Rattle.zmarc.proofs.FieldTheory.{lost_in}
@@ -37,6 +37,6 @@ counted octets =
 
 -- ---- no record
 
-pub nothing_shown : (format : Format) (octets : List ℕ) → is_record octets ≡ false → brief format octets ≡ []
+pub nothing_shown : (reading : Reading) (octets : List ℕ) → is_record octets ≡ false → brief reading octets ≡ []
 unfolding brief
 nothing_shown format octets h = rw h refl

@@ -8,7 +8,7 @@ use Rattle.std.proofs.lemmas.List.Elements.{All-nil, All-cons, All-append, All-w
 use Rattle.std.proofs.lemmas.List.Sums.{AllPass-from_list_all}
 use Rattle.zmarc.specs.declared.charset.Charset.{Charset}
 use Rattle.zmarc.specs.declared.charset.Charset.TheVariants.{Utf8}
-use Rattle.zmarc.specs.declared.format.Format.{Format}
+use Rattle.zmarc.specs.declared.format.Reading.{Reading}
 use Rattle.zmarc.specs.Briefs.{charset}
 use Rattle.zmarc.specs.Charsets.{text}
 use Rattle.zmarc.specs.Laws.{IsPrintable}
@@ -103,11 +103,11 @@ lines_are_safe set octets =
     (All-append IsSafeText (map (field_line set) (fields octets)) (lost_lines (lost_count octets))
     (all_are_safe (field_line set) (field_is_safe set) (fields octets)) (lost_are_safe (lost_count octets)))
 
-each_is_safe : (format : Format) (octets : List ℕ) → All IsSafeText (field_lines format octets)
+each_is_safe : (reading : Reading) (octets : List ℕ) → All IsSafeText (field_lines reading octets)
 unfolding field_lines
-each_is_safe format octets =
-    cond_both (is_record octets) (lines_in (charset format octets) octets) [] (All IsSafeText)
-    (λ _. lines_are_safe (charset format octets) octets) (λ _. All-nil IsSafeText)
+each_is_safe reading octets =
+    cond_both (is_record octets) (lines_in (charset reading octets) octets) [] (All IsSafeText)
+    (λ _. lines_are_safe (charset reading octets) octets) (λ _. All-nil IsSafeText)
 
-pub field_lines_are_safe : (format : Format) (octets : List ℕ) → AreSafeLines (field_lines format octets)
-field_lines_are_safe format octets = record { each = each_is_safe format octets }
+pub field_lines_are_safe : (reading : Reading) (octets : List ℕ) → AreSafeLines (field_lines reading octets)
+field_lines_are_safe reading octets = record { each = each_is_safe reading octets }

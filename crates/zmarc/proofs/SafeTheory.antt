@@ -8,7 +8,7 @@ use Rattle.std.proofs.lemmas.List.Elements.{All-nil, All-cons, All-append, All-m
 use Rattle.std.proofs.lemmas.Str.{encodes-append, IsUtf8-nil, IsUtf8-append}
 use Rattle.unicode_normalization.specs.Forms.{nfc}
 use Rattle.zmarc.specs.declared.charset.Charset.{Charset}
-use Rattle.zmarc.specs.declared.format.Format.{Format}
+use Rattle.zmarc.specs.declared.format.Reading.{Reading}
 use Rattle.zmarc.specs.Shown.{is_sort_mark, is_white, is_invisible, is_safe, shown, shown_text, IsSafe, IsSafeOctet, IsSafeText}
 use Rattle.zmarc.specs.Charsets.{text, characters}
 use Rattle.zmarc.specs.Records.{is_record}
@@ -152,8 +152,9 @@ joined_is_safe set line (piece ∷ found) first =
     joined_is_safe set (with_piece line (text set piece)) found
     (piece_is_safe line (text set piece) first (text_is_safe set piece))
 
-pub brief_is_safe : (format : Format) (octets : List ℕ) → IsSafeText (brief format octets)
+pub brief_is_safe : (reading : Reading) (octets : List ℕ) → IsSafeText (brief reading octets)
 unfolding brief
-brief_is_safe format octets =
-    cond_both (is_record octets) (joined (charset format octets) [] (pieces format octets)) [] IsSafeText
-    (λ _. joined_is_safe (charset format octets) [] (pieces format octets) nothing_is_safe) (λ _. nothing_is_safe)
+brief_is_safe reading octets =
+    cond_both (is_record octets) (joined (charset reading octets) [] (pieces reading.format octets)) [] IsSafeText
+    (λ _. joined_is_safe (charset reading octets) [] (pieces reading.format octets) nothing_is_safe)
+    (λ _. nothing_is_safe)

@@ -9,6 +9,7 @@ use Rattle.std.proofs.lemmas.List.{append-nil}
 use Rattle.std.proofs.lemmas.List.Elements.{All-cons}
 use Rattle.zmarc.specs.declared.charset.Charset.{Charset}
 use Rattle.zmarc.specs.declared.format.Format.{Format}
+use Rattle.zmarc.specs.declared.format.Reading.{Reading}
 use Rattle.zmarc.specs.declared.format.Format.TheVariants.{Marc21, Unimarc}
 use Rattle.zmarc.specs.Charsets.{text}
 use Rattle.zmarc.specs.Isbns.{isbn}
@@ -85,17 +86,18 @@ module _ (format : Format) (octets : List ℕ) (f : Field) (indicators name : Li
 
 -- ---- the line
 
-pub title_shown : (format : Format) (status coded : List ℕ) (fs : List Field) (f : Field) (indicators name : List ℕ)
-    → (made : List Subfield) → AreWritable status coded fs → find (has_tag (title_tag format)) fs ≡ Some f
+pub title_shown : (reading : Reading) (status coded : List ℕ) (fs : List Field) (f : Field) (indicators name : List ℕ)
+    → (made : List Subfield) → AreWritable status coded fs → find (has_tag (title_tag reading.format)) fs ≡ Some f
     → f.octets ≡ title_octets indicators name made → NoDelimiter indicators
     → All (λ s. NoDelimiter (s.code ∷ s.octets)) made → All IsPrintable name → name ≢ []
-    → (rest : List ℕ) × (brief format (record_of status coded fs) ≡ name ++ rest)
+    → (rest : List ℕ) × (brief reading (record_of status coded fs) ≡ name ++ rest)
 unfolding brief first_field
-title_shown format status coded fs f indicators name made w found is no_mark others plain some =
+title_shown reading status coded fs f indicators name made w found is no_mark others plain some =
     let octets : List ℕ = record_of status coded fs in
-    let here : first_field (title_tag format) octets ≡ Some f.octets =
-    ap (λ l. option_map (λ g. g.octets) (find (has_tag (title_tag format)) l)) (fields_written status coded fs w)
+    let here : first_field (title_tag reading.format) octets ≡ Some f.octets =
+    ap (λ l. option_map (λ g. g.octets) (find (has_tag (title_tag reading.format)) l))
+    (fields_written status coded fs w)
     ∙ ap (option_map (λ g. g.octets)) found in
-    let all = pieces_are format octets f indicators name made here is no_mark others plain some in
-    let line = first_stands (charset format octets) name all.0 plain in
-    (line.0, rw (is_record_written status coded fs w) (ap (joined (charset format octets) []) all.1 ∙ line.1))
+    let all = pieces_are reading.format octets f indicators name made here is no_mark others plain some in
+    let line = first_stands (charset reading octets) name all.0 plain in
+    (line.0, rw (is_record_written status coded fs w) (ap (joined (charset reading octets) []) all.1 ∙ line.1))

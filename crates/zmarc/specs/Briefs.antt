@@ -1,6 +1,6 @@
 -- The line that is shown of a record: its title and who made it, and its ISBN.
 use Rattle.std.specs.Prelude.{ℕ, Bool, false, not, ◌&&◌, ◌||◌, ◌==◌, nat_le, if◌then◌else◌, Option, Some, None}
-use Rattle.std.specs.Prelude.{is_some, List, [], ◌∷◌, ◌++◌, length, slice_index, map, fold, codes}
+use Rattle.std.specs.Prelude.{is_some, unwrap_or, List, [], ◌∷◌, ◌++◌, length, slice_index, map, fold, codes}
 use Rattle.std.specs.List.{slice_range, list_any, flat_map}
 use Rattle.std.specs.Option.{option_or, option_to_list}
 use Rattle.std.specs.Str.{bytes_eq, byte}
@@ -8,6 +8,7 @@ use Rattle.zmarc.specs.declared.charset.Charset.{Charset}
 use Rattle.zmarc.specs.declared.charset.Charset.TheVariants.{Utf8, Marc8, Ascii}
 use Rattle.zmarc.specs.declared.format.Format.{Format}
 use Rattle.zmarc.specs.declared.format.Format.TheVariants.{Marc21, Unimarc}
+use Rattle.zmarc.specs.declared.format.Reading.{Reading}
 use Rattle.zmarc.specs.Charsets.{is_utf8_beyond_ascii, text}
 use Rattle.zmarc.specs.Isbns.{isbn}
 use Rattle.zmarc.specs.Records.{first_field, is_record, own_octets}
@@ -89,16 +90,24 @@ abbrev pub declares_utf8 : Format → List ℕ → Bool
 declares_utf8 Marc21 octets = nat_le 10 (length octets) && slice_index octets 9 == byte "a"
 declares_utf8 Unimarc octets = names_utf8 (subfield_in (codes "100") (byte "a") octets)
 
--- the set of a record that is not in UTF-8
+-- the set of a record that does not say that it is in UTF-8
 abbrev pub other_charset : Format → Charset
 other_charset Marc21 = Marc8
 other_charset Unimarc = Ascii
 
--- the character set: UTF-8 also where the record does not say so, and its own octets are UTF-8 as a whole, with octets
--- beyond ASCII
-abbrev pub charset : Format → List ℕ → Charset
-charset format octets =
+-- the character set that a record is read in by itself: UTF-8 also where it does not say so, and its own octets are
+-- UTF-8 as a whole, with octets beyond ASCII
+abbrev pub own_charset : Format → List ℕ → Charset
+own_charset format octets =
     if declares_utf8 format octets || is_utf8_beyond_ascii (own_octets octets) then Utf8 else other_charset format
+
+-- the character set that a record is read in: the one that is known from elsewhere, else its own
+abbrev pub charset : Reading → List ℕ → Charset
+charset reading octets = unwrap_or reading.charset (own_charset reading.format octets)
+
+-- in this format, and in the character set that is known from elsewhere, if one is
+abbrev pub read_in : Format → Option Charset → Reading
+read_in format known = record { format = format; charset = known }
 
 -- a piece behind a line, with a space between them unless the line is empty
 abbrev pub with_piece : List ℕ → List ℕ → List ℕ
@@ -109,5 +118,6 @@ unfoldable pub joined : Charset → List ℕ → List (List ℕ) → List ℕ
 joined set line found = fold with_piece line (map (text set) found)
 
 -- the line that is shown of a record: nothing, where the octets are no record
-unfoldable pub brief : Format → List ℕ → List ℕ
-brief format octets = if is_record octets then joined (charset format octets) [] (pieces format octets) else []
+unfoldable pub brief : Reading → List ℕ → List ℕ
+brief reading octets =
+    if is_record octets then joined (charset reading octets) [] (pieces reading.format octets) else []

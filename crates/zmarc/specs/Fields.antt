@@ -4,6 +4,7 @@ use Rattle.std.specs.List.{list_any, flat_map}
 use Rattle.std.specs.Option.{option_map, option_or, option_to_list}
 use Rattle.zmarc.specs.declared.format.Format.{Format}
 use Rattle.zmarc.specs.declared.format.Format.TheVariants.{Marc21, Unimarc}
+use Rattle.zmarc.specs.declared.format.Reading.{Reading}
 use Rattle.zmarc.specs.Briefs.{title_tag, maker_code, title_part, heading, charset, joined}
 use Rattle.zmarc.specs.Charsets.{text}
 use Rattle.zmarc.specs.Isbns.{isbn_number}
@@ -66,24 +67,26 @@ author format octets =
 -- ---- their texts
 
 -- octets as the line of the record shows them; nothing where there are none
-abbrev pub shown_of : Format → List ℕ → Option (List ℕ) → List ℕ
-shown_of format octets None = []
-shown_of format octets (Some found) = text (charset format octets) found
+abbrev pub shown_of : Reading → List ℕ → Option (List ℕ) → List ℕ
+shown_of reading octets None = []
+shown_of reading octets (Some found) = text (charset reading octets) found
 
 -- the year, four digits
-unfoldable pub year_text : Format → List ℕ → List ℕ
-year_text format octets = if is_record octets then shown_of format octets (year format octets) else []
+unfoldable pub year_text : Reading → List ℕ → List ℕ
+year_text reading octets = if is_record octets then shown_of reading octets (year reading.format octets) else []
 
 -- the title without the statement of responsibility, and without the marks at its end
-unfoldable pub title_text : Format → List ℕ → List ℕ
-title_text format octets =
-    if is_record octets then joined (charset format octets) [] (without_end_marks (title_alone format octets)) else []
+unfoldable pub title_text : Reading → List ℕ → List ℕ
+title_text reading octets =
+    if is_record octets
+    then joined (charset reading octets) [] (without_end_marks (title_alone reading.format octets))
+    else []
 
 -- who made it, without the marks at the end
-unfoldable pub author_text : Format → List ℕ → List ℕ
-author_text format octets =
-    if is_record octets then shown_of format octets (option_map without_marks (author format octets)) else []
+unfoldable pub author_text : Reading → List ℕ → List ℕ
+author_text reading octets =
+    if is_record octets then shown_of reading octets (option_map without_marks (author reading.format octets)) else []
 
 -- the number of the ISBN, without the word
-unfoldable pub isbn_text : Format → List ℕ → List ℕ
-isbn_text format octets = if is_record octets then shown_of format octets (isbn_number format octets) else []
+unfoldable pub isbn_text : Reading → List ℕ → List ℕ
+isbn_text reading octets = if is_record octets then shown_of reading octets (isbn_number reading.format octets) else []

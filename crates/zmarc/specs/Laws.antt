@@ -5,14 +5,15 @@ use Rattle.std.specs.List.{flat_map}
 use Rattle.std.specs.Str.{encode_utf8_all, byte}
 use Rattle.unicode_normalization.specs.Forms.{nfc}
 use Rattle.zmarc.specs.declared.charset.Charset.{Charset}
-use Rattle.zmarc.specs.declared.charset.Charset.TheVariants.{Utf8}
+use Rattle.zmarc.specs.declared.charset.Charset.TheVariants.{Utf8, Latin1}
 use Rattle.zmarc.specs.declared.marc8.Mode.TheVariants.{Plain}
 use Rattle.zmarc.specs.declared.marc8.Step.TheVariants.{Mark, Letter}
 use Rattle.zmarc.specs.Shown.{IsSafe}
 use Rattle.zmarc.specs.Charsets.{text}
 use Rattle.zmarc.specs.Marc8.{meaning, marc8}
 use Rattle.zmarc.specs.declared.format.Format.{Format}
-use Rattle.zmarc.specs.Briefs.{title_tag, brief, charset}
+use Rattle.zmarc.specs.declared.format.Reading.{Reading}
+use Rattle.zmarc.specs.Briefs.{title_tag, brief, charset, read_in}
 use Rattle.zmarc.specs.Lines.{subfield_text, data_text, field_line, field_lines}
 use Rattle.zmarc.specs.Records.{is_record, Field, fields, has_tag, entry_count, lost_count}
 use Rattle.zmarc.specs.Subfields.{Subfield, subfields}
@@ -32,6 +33,11 @@ pub record TextLaws : Type 0 where
       → text Utf8 (encode_utf8_all cs) ≡ encode_utf8_all (nfc cs)
   -- so is printable ASCII, whatever the set is
   pub ascii_stands : (set : Charset) (octets : List ℕ) → All IsPrintable octets → text set octets ≡ octets
+  -- octets of ISO 8859-1 are the numbers of their characters: their composed form is shown, where both are safe
+  pub latin1_stands : (octets : List ℕ) → All IsSafe octets → All IsSafe (nfc octets)
+      → text Latin1 octets ≡ encode_utf8_all (nfc octets)
+  -- a record is read in the set that is known from elsewhere, whatever it says itself
+  pub known_set : (format : Format) (set : Charset) (octets : List ℕ) → charset (read_in format (Some set)) octets ≡ set
   -- in MARC-8 a mark stands before its letter, and goes behind it
   pub mark_behind : (x y m c : ℕ) (octets : List ℕ) → meaning Plain x ≡ Mark m → meaning Plain y ≡ Letter c Plain
       → marc8 (x ∷ y ∷ octets) ≡ c ∷ m ∷ marc8 octets
@@ -62,7 +68,7 @@ CountLaw = (octets : List ℕ) → length (fields octets) + lost_count octets �
 
 -- of octets that are no record nothing is shown
 abbrev pub NothingLaw : Type 0
-NothingLaw = (format : Format) (octets : List ℕ) → is_record octets ≡ false → brief format octets ≡ []
+NothingLaw = (reading : Reading) (octets : List ℕ) → is_record octets ≡ false → brief reading octets ≡ []
 
 -- the octets of a field that begins with the title: indicators, the subfield $a, and other subfields
 abbrev pub title_octets : List ℕ → List ℕ → List Subfield → List ℕ
@@ -72,11 +78,11 @@ title_octets indicators title made =
 -- the line of a record begins with its title: with what stands in $a, where the first field of the title begins with
 -- that, and it is printable ASCII and not empty
 abbrev pub TitleLaw : Type 0
-TitleLaw = (format : Format) (status coded : List ℕ) (fs : List Field) (f : Field) (indicators title : List ℕ)
-    → (made : List Subfield) → AreWritable status coded fs → find (has_tag (title_tag format)) fs ≡ Some f
+TitleLaw = (reading : Reading) (status coded : List ℕ) (fs : List Field) (f : Field) (indicators title : List ℕ)
+    → (made : List Subfield) → AreWritable status coded fs → find (has_tag (title_tag reading.format)) fs ≡ Some f
     → f.octets ≡ title_octets indicators title made → NoDelimiter indicators
     → All (λ s. NoDelimiter (s.code ∷ s.octets)) made → All IsPrintable title → title ≢ []
-    → (rest : List ℕ) × (brief format (record_of status coded fs) ≡ title ++ rest)
+    → (rest : List ℕ) × (brief reading (record_of status coded fs) ≡ title ++ rest)
 
 -- whatever octets stand behind a record
 pub record BehindLaws : Type 0 where
@@ -91,10 +97,10 @@ pub record BehindLaws : Type 0 where
       → AreWritable status coded fs
       → year format (record_of status coded fs ++ more) ≡ year format (record_of status coded fs)
   -- so does its line, where its leader tells its length, and they and it are few enough for a record
-  pub same_line : (format : Format) (status coded : List ℕ) (fs : List Field) (more : List ℕ)
+  pub same_line : (reading : Reading) (status coded : List ℕ) (fs : List Field) (more : List ℕ)
       → AreWritable status coded fs → TellsLength (record_of status coded fs)
       → length (record_of status coded fs ++ more) < 2 ^ 32
-      → brief format (record_of status coded fs ++ more) ≡ brief format (record_of status coded fs)
+      → brief reading (record_of status coded fs ++ more) ≡ brief reading (record_of status coded fs)
 
 -- ---- records line by line
 
@@ -105,9 +111,9 @@ written_lines set head fs = text set head ∷ map (field_line set) fs
 -- what holds of the lines of a record, and of what stands behind a tag
 pub record LinesLaws : Type 0 where
   -- the lines of a record are those of its leader and of the fields that it was written of, and no more
-  pub of_record : (format : Format) (status coded : List ℕ) (fs : List Field) → AreWritable status coded fs
-      → field_lines format (record_of status coded fs)
-      ≡ written_lines (charset format (record_of status coded fs)) (leader status coded fs) fs
+  pub of_record : (reading : Reading) (status coded : List ℕ) (fs : List Field) → AreWritable status coded fs
+      → field_lines reading (record_of status coded fs)
+      ≡ written_lines (charset reading (record_of status coded fs)) (leader status coded fs) fs
   -- of a field that was made of indicators and subfields these are shown, and no more
   pub of_field : (set : Charset) (indicators : List ℕ) (made : List Subfield) → NoDelimiter indicators
       → All (λ s. NoDelimiter (s.code ∷ s.octets)) made

@@ -4,7 +4,7 @@ use Rattle.std.specs.Fmt.{decimal}
 use Rattle.std.specs.List.{flat_map, before_first}
 use Rattle.std.specs.Str.{bytes_eq}
 use Rattle.zmarc.specs.declared.charset.Charset.{Charset}
-use Rattle.zmarc.specs.declared.format.Format.{Format}
+use Rattle.zmarc.specs.declared.format.Reading.{Reading}
 use Rattle.zmarc.specs.Briefs.{charset}
 use Rattle.zmarc.specs.Charsets.{text}
 use Rattle.zmarc.specs.Records.{Field, fields, is_record, lost_count}
@@ -58,8 +58,8 @@ abbrev pub lines_in : Charset → List ℕ → List (List ℕ)
 lines_in set octets = leader_line set octets ∷ (map (field_line set) (fields octets) ++ lost_lines (lost_count octets))
 
 -- the lines of a record: none, where the octets are no record
-unfoldable pub field_lines : Format → List ℕ → List (List ℕ)
-field_lines format octets = if is_record octets then lines_in (charset format octets) octets else []
+unfoldable pub field_lines : Reading → List ℕ → List (List ℕ)
+field_lines reading octets = if is_record octets then lines_in (charset reading octets) octets else []
 
 -- lines, each with its line feed
 abbrev pub ended_lines : List (List ℕ) → List ℕ

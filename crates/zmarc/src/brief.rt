@@ -5,10 +5,10 @@ ghost use Rattle.zmarc.specs.Charsets.{text};
 ghost use Rattle.zmarc.specs.Records.{is_record};
 ghost use Rattle.zmarc.specs.Shown.{IsSafeText};
 ghost use Rattle.zmarc.specs.References.{behind_each};
-ghost use Rattle.zmarc.specs.Briefs.{names_utf8, declares_utf8, charset, with_piece, joined, brief};
+ghost use Rattle.zmarc.specs.Briefs.{names_utf8, declares_utf8, own_charset, charset, with_piece, joined, brief};
 
 use crate::charset::{Charset, is_utf8_beyond_ascii, put_text};
-use crate::format::Format;
+use crate::format::{Format, Reading};
 use crate::pieces::gather_pieces;
 use crate::records::{cut_own_octets, is_record};
 use crate::subfields::subfield_in;
@@ -35,15 +35,25 @@ fn declares_utf8(octets: &[u8], format: Format) -> bool
     }
 }
 
-/// The character set of a record: UTF-8 where it says so, and where its own octets (`cut_own_octets`) are UTF-8 as a
-/// whole, with octets beyond ASCII; else that of its format.
-pub(crate) fn choose_charset(octets: &[u8], format: Format) -> Charset
-    ensures { result ≡ charset format octets.now }
+/// The character set that a record is read in by itself: UTF-8 where it says so, and where its own octets
+/// (`cut_own_octets`) are UTF-8 as a whole, with octets beyond ASCII; else that of its format.
+fn find_charset(octets: &[u8], format: Format) -> Charset
+    ensures { result ≡ own_charset format octets.now }
 {
     if declares_utf8(octets, format) || is_utf8_beyond_ascii(cut_own_octets(octets)) {
         Charset::Utf8
     } else {
         format.other_charset()
+    }
+}
+
+/// The character set that a record is read in: the one that is known from elsewhere, else its own.
+pub(crate) fn choose_charset(octets: &[u8], reading: Reading) -> Charset
+    ensures { result ≡ charset reading octets.now }
+{
+    match reading.charset {
+        Some(known) => known,
+        None => find_charset(octets, reading.format),
     }
 }
 
@@ -91,11 +101,11 @@ pub(crate) fn put_pieces(
 /// - `ISBN` and a number: what stands before the first space of a `$a` of 020 (UNIMARC: 010), if a digit is in it. Of
 ///   each such field the first `$a` is looked at, and the first of them that has a number gives it.
 ///
-/// The octets are read as UTF-8 where the record says that it is in UTF-8 (MARC 21: `a` at position 9 of the leader;
-/// UNIMARC: `50` at positions 26 and 27 of 100 `$a`), and where the octets of the record are UTF-8 as a whole, with
-/// octets above 7F. Else they are read as MARC-8 (UNIMARC: ASCII; see `Charset`). The octets of the record are as many
-/// as positions 0 to 4 of its leader tell; where these are no five digits, or tell less than 24 or more than
-/// `octets` has, they are all of `octets`.
+/// The octets are read in the set of characters that `reading` has. If it has none, they are read as UTF-8 where the
+/// record says that it is in UTF-8 (MARC 21: `a` at position 9 of the leader; UNIMARC: `50` at positions 26 and 27 of
+/// 100 `$a`), and where the octets of the record are UTF-8 as a whole, with octets above 7F. Else they are read as
+/// MARC-8 (UNIMARC: ASCII; see `Charset`). The octets of the record are as many as positions 0 to 4 of its leader tell;
+/// where these are no five digits, or tell less than 24 or more than `octets` has, they are all of `octets`.
 ///
 /// The line is UTF-8 and safe to print on a terminal, whatever the octets are: it has no control character (C0, delete,
 /// C1), and so no line feed, no separator of lines or paragraphs (U+2028, U+2029), no character that turns the
@@ -104,9 +114,9 @@ pub(crate) fn put_pieces(
 /// U+009C, the marks round what is left out in sorting, are not shown at all. Before that the characters of each piece
 /// are composed as in NFC.
 ///
-/// `octets` is one record of ISO 2709, and `format` says which tags and codes it has. What stands behind a record
-/// changes nothing of its line where the record is written as ISO 2709 has it, its leader tells its length, and all
-/// octets are fewer than 2^32 (`laws::behind_laws`).
+/// `octets` is one record of ISO 2709, and the format of `reading` says which tags and codes it has. What stands behind
+/// a record changes nothing of its line where the record is written as ISO 2709 has it, its leader tells its length,
+/// and all octets are fewer than 2^32 (`laws::behind_laws`).
 ///
 /// Returns `false`, and appends nothing, where the octets are no record (`is_record`). Returns `true` and
 /// may append nothing where the record has nothing to be shown. It fails only if no memory is found; then `out` is as
@@ -115,20 +125,20 @@ pub(crate) fn put_pieces(
 pub fn put_brief(
     alloc: Global,
     octets: &[u8],
-    format: Format,
+    reading: Reading,
     out: &mut String,
 ) -> Result<bool, AllocError>
-    ensures ok { OnOk result (string_bytes out.new ≡ string_bytes out.old ++ brief format octets.now) }
+    ensures ok { OnOk result (string_bytes out.new ≡ string_bytes out.old ++ brief reading octets.now) }
     ensures read { IfOk result (λ read. read ≡ is_record octets.now) }
     ensures err { OnErr result (string_bytes out.new ≡ string_bytes out.old) }
-    ensures safe { IsSafeText (brief format octets.now) }
+    ensures safe { IsSafeText (brief reading octets.now) }
 {
     if !is_record(octets) {
         return Ok(false);
     }
-    let pieces = gather_pieces(alloc, octets, format)?;
+    let pieces = gather_pieces(alloc, octets, reading.format)?;
     let mut line = String::new(alloc);
-    put_pieces(alloc, choose_charset(octets, format), &pieces, &mut line)?;
+    put_pieces(alloc, choose_charset(octets, reading), &pieces, &mut line)?;
     out.push_str(line.as_str())?;
     Ok(true)
 }

@@ -11,7 +11,7 @@ ghost use Rattle.zmarc.specs.Subfields.{subfields};
 
 use crate::brief::{choose_charset, put_pieces};
 use crate::charset::put_text;
-use crate::format::Format;
+use crate::format::{Format, Reading};
 use crate::isbn::find_isbn;
 use crate::pieces::{find_heading, take_part};
 use crate::records::{first_field, is_record};
@@ -125,16 +125,16 @@ fn find_author(octets: &[u8], format: Format) -> Option<&[u8]>
 fn put_joined(
     alloc: Global,
     octets: &[u8],
-    format: Format,
+    reading: Reading,
     pieces: &[&[u8]],
     out: &mut String,
 ) -> Result<(), AllocError>
     ensures ok { OnOk result (string_bytes out.new
-        ≡ string_bytes out.old ++ joined (charset format octets.now) [] (behind_each pieces.now)) }
+        ≡ string_bytes out.old ++ joined (charset reading octets.now) [] (behind_each pieces.now)) }
     ensures err { OnErr result (string_bytes out.new ≡ string_bytes out.old) }
 {
     let mut text = String::new(alloc);
-    put_pieces(alloc, choose_charset(octets, format), pieces, &mut text)?;
+    put_pieces(alloc, choose_charset(octets, reading), pieces, &mut text)?;
     out.push_str(text.as_str())
 }
 
@@ -143,16 +143,16 @@ fn put_joined(
 fn put_found(
     alloc: Global,
     octets: &[u8],
-    format: Format,
+    reading: Reading,
     found: Option<&[u8]>,
     out: &mut String,
 ) -> Result<(), AllocError>
     ensures ok { OnOk result (string_bytes out.new
-        ≡ string_bytes out.old ++ shown_of format octets.now (option_copied found.entry)) }
+        ≡ string_bytes out.old ++ shown_of reading octets.now (option_copied found.entry)) }
     ensures err { OnErr result (string_bytes out.new ≡ string_bytes out.old) }
 {
     match found {
-        Some(piece) => put_text(alloc, choose_charset(octets, format), piece, out),
+        Some(piece) => put_text(alloc, choose_charset(octets, reading), piece, out),
         None => Ok(()),
     }
 }
@@ -165,18 +165,18 @@ fn put_found(
 pub fn put_year(
     alloc: Global,
     octets: &[u8],
-    format: Format,
+    reading: Reading,
     out: &mut String,
 ) -> Result<(), AllocError>
-    ensures ok { OnOk result (string_bytes out.new ≡ string_bytes out.old ++ year_text format octets.now) }
+    ensures ok { OnOk result (string_bytes out.new ≡ string_bytes out.old ++ year_text reading octets.now) }
     ensures err { OnErr result (string_bytes out.new ≡ string_bytes out.old) }
-    ensures safe { IsSafeText (year_text format octets.now) }
+    ensures safe { IsSafeText (year_text reading octets.now) }
 {
     if !is_record(octets) {
         return Ok(());
     }
-    let found = find_year(alloc, octets, format)?;
-    put_found(alloc, octets, format, found, out)
+    let found = find_year(alloc, octets, reading.format)?;
+    put_found(alloc, octets, reading, found, out)
 }
 
 /// Appends the title of a record to `out`, without the statement of responsibility: of the first field 245 (UNIMARC:
@@ -193,20 +193,20 @@ pub fn put_year(
 pub fn put_title(
     alloc: Global,
     octets: &[u8],
-    format: Format,
+    reading: Reading,
     out: &mut String,
 ) -> Result<(), AllocError>
-    ensures ok { OnOk result (string_bytes out.new ≡ string_bytes out.old ++ title_text format octets.now) }
+    ensures ok { OnOk result (string_bytes out.new ≡ string_bytes out.old ++ title_text reading octets.now) }
     ensures err { OnErr result (string_bytes out.new ≡ string_bytes out.old) }
-    ensures safe { IsSafeText (title_text format octets.now) }
+    ensures safe { IsSafeText (title_text reading octets.now) }
 {
     if !is_record(octets) {
         return Ok(());
     }
     let mut pieces = Vec::new(alloc);
-    take_title_alone(octets, format, &mut pieces)?;
+    take_title_alone(octets, reading.format, &mut pieces)?;
     leave_end_marks(&mut pieces)?;
-    put_joined(alloc, octets, format, &pieces, out)
+    put_joined(alloc, octets, reading, &pieces, out)
 }
 
 /// Appends who made what a record describes to `out`: the main heading, which is the first of 100, 110 and 111 `$a`
@@ -219,18 +219,18 @@ pub fn put_title(
 pub fn put_author(
     alloc: Global,
     octets: &[u8],
-    format: Format,
+    reading: Reading,
     out: &mut String,
 ) -> Result<(), AllocError>
-    ensures ok { OnOk result (string_bytes out.new ≡ string_bytes out.old ++ author_text format octets.now) }
+    ensures ok { OnOk result (string_bytes out.new ≡ string_bytes out.old ++ author_text reading octets.now) }
     ensures err { OnErr result (string_bytes out.new ≡ string_bytes out.old) }
-    ensures safe { IsSafeText (author_text format octets.now) }
+    ensures safe { IsSafeText (author_text reading octets.now) }
 {
     if !is_record(octets) {
         return Ok(());
     }
-    match find_author(octets, format) {
-        Some(found) => put_found(alloc, octets, format, Some(cut_end_marks(found)), out),
+    match find_author(octets, reading.format) {
+        Some(found) => put_found(alloc, octets, reading, Some(cut_end_marks(found)), out),
         None => Ok(()),
     }
 }
@@ -244,16 +244,16 @@ pub fn put_author(
 pub fn put_isbn(
     alloc: Global,
     octets: &[u8],
-    format: Format,
+    reading: Reading,
     out: &mut String,
 ) -> Result<(), AllocError>
-    ensures ok { OnOk result (string_bytes out.new ≡ string_bytes out.old ++ isbn_text format octets.now) }
+    ensures ok { OnOk result (string_bytes out.new ≡ string_bytes out.old ++ isbn_text reading octets.now) }
     ensures err { OnErr result (string_bytes out.new ≡ string_bytes out.old) }
-    ensures safe { IsSafeText (isbn_text format octets.now) }
+    ensures safe { IsSafeText (isbn_text reading octets.now) }
 {
     if !is_record(octets) {
         return Ok(());
     }
-    let found = find_isbn(alloc, octets, format)?;
-    put_found(alloc, octets, format, found, out)
+    let found = find_isbn(alloc, octets, reading.format)?;
+    put_found(alloc, octets, reading, found, out)
 }

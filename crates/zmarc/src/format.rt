@@ -1,7 +1,7 @@
 //! Formats of records, and where each has what is shown.
 ghost use Rattle.std.specs.Prelude.{◌≡◌};
 ghost use Rattle.std.specs.Option.{option_copied};
-ghost use Rattle.zmarc.specs.Briefs.{title_tag, title_codes, mark_before, maker_code, other_charset};
+ghost use Rattle.zmarc.specs.Briefs.{title_tag, title_codes, mark_before, maker_code, other_charset, read_in};
 ghost use Rattle.zmarc.specs.Fields.{title_alone_codes};
 ghost use Rattle.zmarc.specs.Isbns.{isbn_tag};
 
@@ -16,7 +16,27 @@ pub enum Format {
     Unimarc,
 }
 
+/// How the octets of a record are read.
+#[derive(Clone, Copy, Debug, PartialEq, Eq)]
+pub struct Reading {
+    /// Which tags and codes the record has.
+    pub format: Format,
+    /// The set of characters, if it is known from elsewhere: then it does not count what the record says of its set.
+    pub charset: Option<Charset>,
+}
+
 impl Format {
+    /// How records of this format are read in a set of characters that is known from elsewhere. If none is, they are
+    /// read in the sets that they say they are in.
+    pub fn read_in(self, charset: Option<Charset>) -> Reading
+        ensures { result ≡ read_in self charset }
+    {
+        Reading {
+            format: self,
+            charset,
+        }
+    }
+
     /// The tag of the title.
     pub(crate) fn title_tag(self) -> &'static [u8]
         ensures { result.now ≡ title_tag self }
@@ -69,7 +89,7 @@ impl Format {
         }
     }
 
-    /// The set of characters of a record that is not in UTF-8.
+    /// The set of characters of a record that does not say that it is in UTF-8.
     pub(crate) fn other_charset(self) -> Charset
         ensures { result ≡ other_charset self }
     {

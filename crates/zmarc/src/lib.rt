@@ -20,9 +20,9 @@ mod syntax;
 mod year;
 
 pub use brief::put_brief;
-pub use charset::{Charset, put_text};
+pub use charset::{Charset, charset_at, put_text, read_characters};
 pub use fields::{put_author, put_isbn, put_title, put_year};
-pub use format::Format;
+pub use format::{Format, Reading};
 pub use lines::{gather_lines, put_lines};
 pub use records::{count_lost, first_field, is_record};
 pub use subfields::subfield_in;

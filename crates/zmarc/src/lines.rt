@@ -10,7 +10,7 @@ ghost use Rattle.zmarc.specs.Subfields.{subfields};
 
 use crate::brief::choose_charset;
 use crate::charset::{Charset, put_text};
-use crate::format::Format;
+use crate::format::Reading;
 use crate::records::{TaggedOctets, count_lost, cut_leader, gather_fields, is_record};
 use crate::subfields::{cut_indicators, split_next_part};
 use std::alloc::{AllocError, Global};
@@ -187,14 +187,18 @@ fn gather_lines_in(
 ///
 /// Returns no line where the octets are no record (`is_record`). It fails only if no memory is found.
 #[tactic(auto, unfolding(crate::specs::Lines::field_lines), using(crate::proofs::SafeLines::field_lines_are_safe))]
-pub fn gather_lines(alloc: Global, octets: &[u8], format: Format) -> Result<Vec<String>, AllocError>
-    ensures ok { IfOk result (λ lines. map string_bytes lines.items ≡ field_lines format octets.now) }
-    ensures safe { AreSafeLines (field_lines format octets.now) }
+pub fn gather_lines(
+    alloc: Global,
+    octets: &[u8],
+    reading: Reading,
+) -> Result<Vec<String>, AllocError>
+    ensures ok { IfOk result (λ lines. map string_bytes lines.items ≡ field_lines reading octets.now) }
+    ensures safe { AreSafeLines (field_lines reading octets.now) }
 {
     if !is_record(octets) {
         return Ok(Vec::new(alloc));
     }
-    gather_lines_in(alloc, choose_charset(octets, format), octets)
+    gather_lines_in(alloc, choose_charset(octets, reading), octets)
 }
 
 /// Appends lines, each with a line feed behind it.
@@ -218,19 +222,19 @@ fn put_each(lines: &[String], out: &mut String) -> Result<(), AllocError>
 pub fn put_lines(
     alloc: Global,
     octets: &[u8],
-    format: Format,
+    reading: Reading,
     out: &mut String,
 ) -> Result<bool, AllocError>
     ensures ok { OnOk result (string_bytes out.new
-        ≡ string_bytes out.old ++ ended_lines (field_lines format octets.now)) }
+        ≡ string_bytes out.old ++ ended_lines (field_lines reading octets.now)) }
     ensures read { IfOk result (λ read. read ≡ is_record octets.now) }
     ensures err { OnErr result (string_bytes out.new ≡ string_bytes out.old) }
-    ensures safe { AreSafeLines (field_lines format octets.now) }
+    ensures safe { AreSafeLines (field_lines reading octets.now) }
 {
     if !is_record(octets) {
         return Ok(false);
     }
-    let lines = gather_lines(alloc, octets, format)?;
+    let lines = gather_lines(alloc, octets, reading)?;
     let mut text = String::new(alloc);
     put_each(&lines, &mut text)?;
     out.push_str(text.as_str())?;

@@ -24,7 +24,7 @@ union_not_asked options cs e f is of = (e, is, of)
 -- the union of the catalogues of a file
 pub union_made : (octets : List ℕ) (options : SearchOptions) (cs : List Catalogue) (r : Result Union UnionFault)
     → AreCataloguesOf octets cs → UnionOfResult options cs r → UnionInResult octets options r
-union_made octets options cs (Ok u) are is = record { list = cs; are = are; asked = is.0; waits = is.1 }
+union_made octets options cs (Ok u) are is = record { list = cs; are = are; asked = is.0; waits = is.1; charsets = is.2 }
 union_made octets options cs (Err f) are is =
     inr (record { list = cs; are = are; error = is.0; of = is.1; is = is.2 })
 

@@ -47,10 +47,15 @@ abbrev pub number_part : Key → Option ℕ → List ℕ
 number_part key None = []
 number_part key (Some n) = keyed key (decimal n)
 
--- the charset, unless it is UTF-8
-abbrev pub charset_part : Charset → List ℕ
-charset_part charsets.Utf8 = []
-charset_part charsets.Latin1 = keyed keys.Charset (codes "latin-1")
+-- the name of a charset
+abbrev pub charset_name : Charset → List ℕ
+charset_name charsets.Utf8 = codes "utf-8"
+charset_name charsets.Latin1 = codes "latin-1"
+
+-- the charset, if one is given
+abbrev pub charset_part : Option Charset → List ℕ
+charset_part None = []
+charset_part (Some charset) = keyed keys.Charset (charset_name charset)
 
 -- a name of a database, behind a space
 abbrev pub database_part : List ℕ → List ℕ

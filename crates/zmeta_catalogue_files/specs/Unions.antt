@@ -1,8 +1,13 @@
 -- The union of the catalogues of a file, as a search by options asks it; and what is refused.
-use Rattle.std.specs.Prelude.{◌≡◌, ◌⊎◌, ℕ, List, map, Result, Ok, Err}
+use Rattle.std.specs.Prelude.{◌≡◌, ◌⊎◌, ℕ, List, map, Option, Result, Ok, Err}
 use Rattle.std.specs.Borrow.{Bor}
+use Rattle.std.specs.Option.{option_map}
+use Rattle.zmarc.specs.declared.charset.Charset as sets
+use Rattle.zmarc.specs.declared.charset.Charset.TheVariants as known
 use Rattle.zmeta_args.specs.declared.arguments.SearchOptions.{SearchOptions}
 use Rattle.zmeta_catalogues.specs.declared.catalogue.Catalogue.{Catalogue}
+use Rattle.zmeta_catalogues.specs.declared.charset.Charset.{Charset}
+use Rattle.zmeta_catalogues.specs.declared.charset.Charset.TheVariants as charsets
 use Rattle.zmeta_catalogues.specs.declared.error.CatalogueError.{CatalogueError}
 use Rattle.zmeta_catalogues.specs.declared.error.CatalogueError.TheVariants as errors
 use Rattle.zmeta_catalogues.specs.declared.search.AskError.{AskError}
@@ -25,19 +30,29 @@ use Rattle.zmeta_catalogue_files.specs.Options.{IsSearchOf}
 abbrev pub waits_of : Catalogue → CatalogueWaits
 waits_of c = record { connect = c.settings.connect; patience = c.settings.patience }
 
+-- the set of characters that records in this charset are read in
+abbrev pub set_of : Charset → sets.Charset
+set_of charsets.Utf8 = known.Utf8
+set_of charsets.Latin1 = known.Latin1
+
+-- the set of characters that the records of a catalogue are read in, if its file gives one
+abbrev pub charset_of : Catalogue → Option sets.Charset
+charset_of c = option_map set_of c.settings.charset
+
 -- the world is the one that the search of the options asks of the catalogues
 pub record IsWorldOf (options : SearchOptions) (cs : List Catalogue) (w : World) : Type 0 where
   pub search : AskedSearch
   pub of : IsSearchOf options search
   pub world : IsAskedWorld search cs w
 
--- the union of the catalogues of a file: the world that the search of the options asks of them, and their waits, in the
--- order of the lines of the file
+-- the union of the catalogues of a file: the world that the search of the options asks of them, their waits, and the
+-- sets of characters of their records, in the order of the lines of the file
 pub record IsUnion (octets : List ℕ) (options : SearchOptions) (u : Union) : Type 0 where
   pub list : List Catalogue
   pub are : AreCataloguesOf octets list
   pub asked : IsWorldOf options list u.world
   pub waits : u.waits.items ≡ map waits_of list
+  pub charsets : u.charsets.items ≡ map charset_of list
 
 -- why the search of the options cannot be put to the catalogues
 pub record IsAskingError (options : SearchOptions) (cs : List Catalogue) (e : AskError) : Type 0 where
@@ -70,9 +85,10 @@ abbrev pub AskedResult : SearchOptions → List Catalogue → Result World Union
 AskedResult options cs (Ok w) = IsWorldOf options cs w
 AskedResult options cs (Err f) = (e : AskError) × AreAskingErrors options cs e × (f ≡ of_asking options e)
 
--- the same with the waits of the catalogues
+-- the same with the waits of the catalogues and the sets of characters of their records
 abbrev pub UnionOfResult : SearchOptions → List Catalogue → Result Union UnionFault → Type 0
-UnionOfResult options cs (Ok u) = IsWorldOf options cs u.world × (u.waits.items ≡ map waits_of cs)
+UnionOfResult options cs (Ok u) =
+    IsWorldOf options cs u.world × (u.waits.items ≡ map waits_of cs) × (u.charsets.items ≡ map charset_of cs)
 UnionOfResult options cs (Err f) = (e : AskError) × AreAskingErrors options cs e × (f ≡ of_asking options e)
 
 -- the file is refused for an error of its own

@@ -2,7 +2,7 @@
 
 ghost use Rattle.std.specs.Prelude.{◌≡◌, ◌++◌, [], IfOk, OnOk};
 ghost use Rattle.std.specs.List.{flat_map};
-ghost use Rattle.zmeta_catalogue_files.specs.Lines.{is_bare, are_bare, is_word, word_text, keyed, word_part, text_part, number_part, charset_part, database_part, words_part, numbers_part, terms_part, place_part, catalogue_line, catalogue_lines};
+ghost use Rattle.zmeta_catalogue_files.specs.Lines.{is_bare, are_bare, is_word, word_text, keyed, word_part, text_part, number_part, charset_name, charset_part, database_part, words_part, numbers_part, terms_part, place_part, catalogue_line, catalogue_lines};
 
 use bytes::Bytes;
 use std::alloc::{AllocError, Global};
@@ -100,17 +100,25 @@ fn put_number(
     out.extend_from_slice(digits.as_bytes())
 }
 
-/// Appends the charset, unless it is UTF-8.
-fn put_charset(charset: Charset, out: &mut Vec<u8>) -> Result<(), AllocError>
-    ensures { OnOk result (out.new.items ≡ out.old.items ++ charset_part charset) }
+/// Returns the name of a charset.
+fn charset_name(charset: Charset) -> &'static [u8]
+    ensures { result.now ≡ charset_name charset }
 {
     match charset {
-        Charset::Utf8 => Ok(()),
-        Charset::Latin1 => {
-            put_key(Key::Charset, out)?;
-            out.extend_from_slice(b"latin-1")
-        }
+        Charset::Utf8 => b"utf-8",
+        Charset::Latin1 => b"latin-1",
     }
+}
+
+/// Appends the charset, if one is given.
+fn put_charset(charset: Option<Charset>, out: &mut Vec<u8>) -> Result<(), AllocError>
+    ensures { OnOk result (out.new.items ≡ out.old.items ++ charset_part charset) }
+{
+    let Some(charset) = charset else {
+        return Ok(());
+    };
+    put_key(Key::Charset, out)?;
+    out.extend_from_slice(charset_name(charset))
 }
 
 /// Appends the settings whose values are words.

@@ -2,14 +2,15 @@
 
 ghost use Rattle.std.specs.Prelude.{◌≡◌, ℕ, ◌<◌, ◌^◌, List, length, map, IfOk, IfErr, IfSome};
 ghost use Rattle.zmeta_world.specs.InMemoryRuns.{IsFit};
-ghost use Rattle.zmeta_catalogue_files.specs.Unions.{waits_of, of_asking, AskedResult, UnionOfResult, UnionInResult, UnionResult, IsOfUnion};
+ghost use Rattle.zmeta_catalogue_files.specs.Unions.{waits_of, set_of, charset_of, of_asking, AskedResult, UnionOfResult, UnionInResult, UnionResult, IsOfUnion};
 
 use crate::options::world_of;
 use crate::paths::octets_at;
 use crate::refusal::UnionFault;
 use std::alloc::{AllocError, Global};
+use zmarc::Charset as RecordCharset;
 use zmeta_args::SearchOptions;
-use zmeta_catalogues::{AskError, Catalogue, Catalogues, read_catalogues};
+use zmeta_catalogues::{AskError, Catalogue, Catalogues, Charset, read_catalogues};
 use zmeta_devices::fault::Fault;
 use zmeta_devices::files::Folder;
 use zmeta_world::world::World;
@@ -30,6 +31,8 @@ pub struct Union {
     pub world: World,
     /// The waits of each catalogue, in the same order.
     pub waits: Vec<CatalogueWaits>,
+    /// The set of characters of each catalogue's records, in the same order. `None` where the file gives none.
+    pub charsets: Vec<Option<RecordCharset>>,
 }
 
 /// Returns the waits of each catalogue, in order.
@@ -44,6 +47,40 @@ fn waits_of(alloc: Global, catalogues: &[Catalogue]) -> Result<Vec<CatalogueWait
         })?;
     }
     Ok(waits)
+}
+
+/// Returns the set of characters that records in this charset are read in.
+fn set_of(charset: Charset) -> RecordCharset
+    ensures { result ≡ set_of charset }
+{
+    match charset {
+        Charset::Utf8 => RecordCharset::Utf8,
+        Charset::Latin1 => RecordCharset::Latin1,
+    }
+}
+
+/// Returns the set of characters that the records of a catalogue are read in, if its file gives one.
+fn charset_of(catalogue: &Catalogue) -> Option<RecordCharset>
+    ensures { result ≡ charset_of catalogue.now }
+{
+    match catalogue.settings.charset {
+        Some(charset) => Some(set_of(charset)),
+        None => None,
+    }
+}
+
+/// Returns that of each catalogue, in order.
+fn charsets_of(
+    alloc: Global,
+    catalogues: &[Catalogue],
+) -> Result<Vec<Option<RecordCharset>>, AllocError>
+    ensures { IfOk result (λ charsets. charsets.items ≡ map charset_of catalogues.now) }
+{
+    let mut charsets = Vec::new(alloc);
+    for catalogue in catalogues {
+        charsets.push(charset_of(catalogue))?;
+    }
+    Ok(charsets)
 }
 
 /// Returns the fault for a search that cannot be put to the catalogues, with the text of the option that is at fault.
@@ -95,7 +132,14 @@ fn union_of<'a>(
 {
     match asked_world(alloc, file, options) {
         Ok(world) => match waits_of(alloc, file.list.as_slice()) {
-            Ok(waits) => Ok(Union { world, waits }),
+            Ok(waits) => match charsets_of(alloc, file.list.as_slice()) {
+                Ok(charsets) => Ok(Union {
+                    world,
+                    waits,
+                    charsets,
+                }),
+                Err(_) => Err(of_asking(options, AskError::Memory)),
+            },
             Err(_) => Err(of_asking(options, AskError::Memory)),
         },
         Err(fault) => Err(fault),
@@ -120,7 +164,7 @@ fn union_in<'a>(
 }
 
 /// Reads the file of catalogues at a path, and returns the world that the search of the options asks of its catalogues,
-/// which can be planned by `network`, with their waits.
+/// which can be planned by `network`, with their waits and the sets of characters of their records.
 ///
 /// The faults: `Fault(Read)` if the file cannot be read; `Refused` if it is refused; `Fault` of an option whose text is
 /// refused as it is: `Query`, `Wanted`, `Syntax`; `Unasked` if the search cannot be put to a catalogue for another

@@ -16,7 +16,7 @@ read_same : (s t : Settings) → read s ≡ read t → s ≡ t
 read_same s t h = cc
 
 -- the settings of these readings, with these texts
-abbrev numbered : Reading (Option ℕ) → Reading (Option ℕ) → Reading Charset → Reading (Option ℕ)
+abbrev numbered : Reading (Option ℕ) → Reading (Option ℕ) → Reading (Option Charset) → Reading (Option ℕ)
     → Reading (Option ℕ) → Option (List ℕ) → Option (List ℕ) → Option (List ℕ) → Reading Settings
 numbered step window charset patience connect syntax elements records =
     bind step (λ step.
@@ -36,8 +36,8 @@ numbered step window charset patience connect syntax elements records =
     }))))))
 
 -- the numbers leave the texts as they are
-texts_kept : (step window : Reading (Option ℕ)) (charset : Reading Charset) (patience connect : Reading (Option ℕ))
-    (syntax elements records : Option (List ℕ)) (s : Settings)
+texts_kept : (step window : Reading (Option ℕ)) (charset : Reading (Option Charset))
+    (patience connect : Reading (Option ℕ)) (syntax elements records : Option (List ℕ)) (s : Settings)
     → numbered step window charset patience connect syntax elements records ≡ Ok s
     → (syntax ≡ s.syntax) × (elements ≡ s.elements) × (records ≡ s.records)
 texts_kept (Ok step) (Ok window) (Ok charset) (Ok patience) (Ok connect) syntax elements records s h =

@@ -14,10 +14,11 @@ abbrev pub latin1 : List ℕ → Option (List ℕ)
 latin1 [] = Some []
 latin1 (c ∷ cs) = if is_latin1 c then option_map (λ octets. c ∷ octets) (latin1 cs) else None
 
--- the octets of the text in this character set, if it has all characters of the text
-abbrev pub octets_in : Charset → List ℕ → Option (List ℕ)
-octets_in charsets.Utf8 text = Some text
-octets_in charsets.Latin1 text = latin1 (chars text)
+-- the octets of the text in this character set, if it has all characters of the text; in UTF-8, if none is given
+abbrev pub octets_in : Option Charset → List ℕ → Option (List ℕ)
+octets_in None text = Some text
+octets_in (Some charsets.Utf8) text = Some text
+octets_in (Some charsets.Latin1) text = latin1 (chars text)
 
 -- the character set of this name
 abbrev pub charset_named : List ℕ → Option Charset

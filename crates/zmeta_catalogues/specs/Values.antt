@@ -7,7 +7,6 @@ use Rattle.zmeta_world.specs.WorldWants.{wanted_of}
 use Rattle.zmeta_world.specs.WorldLines.{syntax_of}
 use Rattle.zmeta_world.specs.Search.{dotted_syntax}
 use Rattle.zmeta_catalogues.specs.declared.charset.Charset.{Charset}
-use Rattle.zmeta_catalogues.specs.declared.charset.Charset.TheVariants as charsets
 use Rattle.zmeta_catalogues.specs.declared.fault.Key.{Key}
 use Rattle.zmeta_catalogues.specs.declared.fault.Key.TheVariants as keys
 use Rattle.zmeta_catalogues.specs.declared.fault.FaultKind.{FaultKind}
@@ -76,14 +75,14 @@ number_of key most None = Ok None
 number_of key most (Some value) = ranged key most (as_integer value)
 
 -- the character set of this name
-abbrev pub charset_by : Option (Option Charset) → Reading Charset
+abbrev pub charset_by : Option (Option Charset) → Reading (Option Charset)
 charset_by None = fault keys.Charset faults.Type
 charset_by (Some None) = fault keys.Charset faults.Text
-charset_by (Some (Some charset)) = Ok charset
+charset_by (Some (Some charset)) = Ok (Some charset)
 
--- a character set; UTF-8 if there is no value
-abbrev pub charset_of : Option Data → Reading Charset
-charset_of None = Ok charsets.Utf8
+-- a character set, if there is a value
+abbrev pub charset_of : Option Data → Reading (Option Charset)
+charset_of None = Ok None
 charset_of (Some value) = charset_by (option_map charset_named (as_str value))
 
 -- the text, if it is a record syntax
@@ -125,10 +124,10 @@ records_of None = Ok None
 records_of (Some value) = records_in (as_integer value) value
 
 -- the text in this character set
-abbrev pub converted : Charset → Option (List ℕ) → Reading (Option (List ℕ))
+abbrev pub converted : Option Charset → Option (List ℕ) → Reading (Option (List ℕ))
 converted charset None = Ok None
 converted charset (Some text) = or_fault keys.Query faults.Charset (octets_in charset text)
 
 -- the octets of a query in this character set, if there is a value
-abbrev pub query_of : Charset → Option Data → Reading (Option (List ℕ))
+abbrev pub query_of : Option Charset → Option Data → Reading (Option (List ℕ))
 query_of charset value = bind (text_of keys.Query value) (converted charset)

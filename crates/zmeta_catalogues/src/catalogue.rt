@@ -33,8 +33,9 @@ pub struct Settings {
     pub step: Option<u32>,
     /// How many Presents may be outstanding at a time, 1 to 64.
     pub window: Option<u32>,
-    /// The character set of its queries.
-    pub charset: Charset,
+    /// The character set of its queries and its records. Without one the queries are in UTF-8, and the records as they
+    /// say themselves.
+    pub charset: Option<Charset>,
     /// How many seconds to wait for an answer, 1 to 3,600.
     pub patience: Option<u32>,
     /// How many seconds connecting may take, 1 to 3,600.
@@ -303,7 +304,7 @@ fn own_terms(alloc: Global, own: &Table) -> Result<Terms, Stop>
 }
 
 /// Reads the query that replaces the search, in the character set of the catalogue.
-fn own_query(alloc: Global, charset: Charset, own: &Table) -> Result<Option<Bytes>, Stop>
+fn own_query(alloc: Global, charset: Option<Charset>, own: &Table) -> Result<Option<Bytes>, Stop>
     ensures { Reads (query_of charset (get_member (name_of Key.Query) (table_view own.now))) result }
 {
     query_of(alloc, charset, member(own, Key::Query.name()))

@@ -1,4 +1,4 @@
-//! The character sets of queries.
+//! The character sets of catalogues.
 
 ghost use Rattle.std.specs.Prelude.{◌≡◌, IfOk};
 ghost use Rattle.std.specs.Str.{chars};
@@ -7,7 +7,7 @@ ghost use Rattle.zmeta_catalogues.specs.Charsets.{is_latin1, latin1, octets_in, 
 use bytes::Bytes;
 use std::alloc::{AllocError, Global};
 
-/// The character set of the queries to a catalogue.
+/// The character set of a catalogue: of the queries to it, and of its records.
 #[derive(Clone, Copy, Debug, PartialEq, Eq)]
 pub enum Charset {
     /// UTF-8.
@@ -50,17 +50,17 @@ fn latin1(alloc: Global, text: &str) -> Result<Option<Bytes>, AllocError>
     Ok(Some(Bytes::from_vec(octets)?))
 }
 
-/// Returns the octets of the text in this character set, if the set has all characters of the text. `AllocError` if no
-/// memory is found.
+/// Returns the octets of the text in this character set, if the set has all characters of the text; in UTF-8, if none is
+/// given. `AllocError` if no memory is found.
 pub(crate) fn octets_in(
     alloc: Global,
-    charset: Charset,
+    charset: Option<Charset>,
     text: &str,
 ) -> Result<Option<Bytes>, AllocError>
     ensures { IfOk result (λ octets. octets ≡ octets_in charset text.now) }
 {
     match charset {
-        Charset::Utf8 => Ok(Some(Bytes::copy_from_slice(alloc, text.as_bytes())?)),
-        Charset::Latin1 => latin1(alloc, text),
+        None | Some(Charset::Utf8) => Ok(Some(Bytes::copy_from_slice(alloc, text.as_bytes())?)),
+        Some(Charset::Latin1) => latin1(alloc, text),
     }
 }

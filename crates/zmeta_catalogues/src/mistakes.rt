@@ -11,7 +11,7 @@ use crate::error::CatalogueError;
 use crate::fault::{FaultKind, Key, SettingFault, Stop};
 use crate::key_lines::{KeyLine, key_lines};
 use crate::operands::{attributes_of, read_query};
-use crate::reader::{read_catalogues, setting_error, top_error, unknown_error};
+use crate::reader::{document, read_catalogues, setting_error, top_error, unknown_error};
 use crate::site::{Site, site_of};
 use crate::sorted_lines::{Source, line_of, source_of};
 use crate::values::{
@@ -19,7 +19,6 @@ use crate::values::{
 };
 use crate::words::{TableKind, is_known, keys_of, stands_for_all};
 use std::alloc::{AllocError, Global};
-use std::str::from_utf8;
 use toml::{Table, Value};
 
 // ---- the settings of a table that are at fault
@@ -247,12 +246,10 @@ fn table_mistakes(
 
 /// Returns the mistakes of the document, if it is one.
 fn document_mistakes(alloc: Global, octets: &[u8]) -> Result<Vec<CatalogueError>, AllocError> {
-    let Ok(text) = from_utf8(octets) else {
-        return Ok(Vec::new(alloc));
-    };
     let source = source_of(alloc, octets)?;
-    match toml::table_from_str(alloc, text) {
+    match document(alloc, octets) {
         Ok(top) => table_mistakes(alloc, &source, &top),
+        Err(CatalogueError::Memory) => Err(AllocError),
         Err(_) => Ok(Vec::new(alloc)),
     }
 }

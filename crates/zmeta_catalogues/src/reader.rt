@@ -314,7 +314,7 @@ fn is_marked(octets: &[u8]) -> bool
 }
 
 /// Reads a file as TOML.
-fn document(alloc: Global, octets: &[u8]) -> Result<Table, CatalogueError>
+pub(crate) fn document(alloc: Global, octets: &[u8]) -> Result<Table, CatalogueError>
     ensures unmarked { OnOk result (is_marked octets.now ≡ false) }
     ensures ok { IfOk result (λ top. parse_document octets.now ≡ Some (table_view top)) }
     ensures err { IfErr result (IsTomlError octets.now) }

@@ -85,18 +85,18 @@ pub(crate) fn number_of(key: Key, most: u32, value: Option<&Value>) -> Result<Op
     }
 }
 
-/// Reads a character set; UTF-8 if there is no value.
-pub(crate) fn charset_of(value: Option<&Value>) -> Result<Charset, Stop>
+/// Reads a character set, if there is a value.
+pub(crate) fn charset_of(value: Option<&Value>) -> Result<Option<Charset>, Stop>
     ensures { Reads (charset_of (option_map (λ value. view value.now) value.entry)) result }
 {
     let Some(value) = value else {
-        return Ok(Charset::Utf8);
+        return Ok(None);
     };
     let Some(text) = value.as_str() else {
         return Err(fault(Key::Charset, FaultKind::Type));
     };
     match charset_named(text) {
-        Some(charset) => Ok(charset),
+        Some(charset) => Ok(Some(charset)),
         None => Err(fault(Key::Charset, FaultKind::Text)),
     }
 }
@@ -170,7 +170,7 @@ pub(crate) fn records_of(alloc: Global, value: Option<&Value>) -> Result<Option<
 }
 
 /// Converts a query into the character set of the catalogue.
-fn converted(alloc: Global, charset: Charset, text: &str) -> Result<Option<Bytes>, Stop>
+fn converted(alloc: Global, charset: Option<Charset>, text: &str) -> Result<Option<Bytes>, Stop>
     ensures { Reads (converted charset (Some text.now)) result }
 {
     match octets_in(alloc, charset, text)? {
@@ -182,7 +182,7 @@ fn converted(alloc: Global, charset: Charset, text: &str) -> Result<Option<Bytes
 /// Reads a query in the character set of the catalogue, if there is a value.
 pub(crate) fn query_of(
     alloc: Global,
-    charset: Charset,
+    charset: Option<Charset>,
     value: Option<&Value>,
 ) -> Result<Option<Bytes>, Stop>
     ensures { Reads (query_of charset (option_map (λ value. view value.now) value.entry)) result }

@@ -9,16 +9,17 @@ use zmeta_catalogues::{Catalogue, CatalogueError, Charset, mistakes_of, read_cat
 /// Files, and their catalogues: name, line, address, databases; charset, syntax, elements, records, step, window,
 /// patience, connect; query.
 const FILES: &str = r#"# One catalogue, and its defaults.
-[town]~address = "z3950.town.example"~database = "books" => town 1 z3950.town.example:210 books; utf-8 - - - - - - -; -
+[town]~address = "z3950.town.example"~database = "books" => town 1 z3950.town.example:210 books; - - - - - - - -; -
 # All settings.
 [t]~address = "h:2100"~database = ["a", "b"]~syntax = "marc21"~elements = "F"~records = "1-3,10-12"~step = 5~window = 2~charset = "latin-1"~patience = 7~connect = 9~query = "@or a b" => t 1 h:2100 a,b; latin-1 marc21 F 1-3,10-12 5 2 7 9; @or a b
 # Settings for all, and one of its own; order of the lines.
-records = 20~syntax = "xml"~[b]~address = "h"~database = "x"~[a]~address = "h"~database = "x"~records = 5 => b 3 h:210 x; utf-8 xml - 20 - - - -; -|a 6 h:210 x; utf-8 xml - 5 - - - -; -
-# A query in the charset of the catalogue.
+records = 20~syntax = "xml"~[b]~address = "h"~database = "x"~[a]~address = "h"~database = "x"~records = 5 => b 3 h:210 x; - xml - 20 - - - -; -|a 6 h:210 x; - xml - 5 - - - -; -
+# A charset that is given, and a query in it.
+[t]~address = "h"~database = "x"~charset = "utf-8" => t 1 h:210 x; utf-8 - - - - - - -; -
 t = { address = "h", database = "b", charset = "latin-1", query = "%c3%a9" } => t 1 h:210 b; latin-1 - - - - - - -; %e9
 # Addresses of IPv6 in brackets.
-[t]~address = "[2001:db8::1]:2100"~database = "b" => t 1 [2001:db8::1]:2100 b; utf-8 - - - - - - -; -
-[t]~address = "[::1]"~database = "b" => t 1 [::1]:210 b; utf-8 - - - - - - -; -
+[t]~address = "[2001:db8::1]:2100"~database = "b" => t 1 [2001:db8::1]:2100 b; - - - - - - - -; -
+[t]~address = "[::1]"~database = "b" => t 1 [::1]:210 b; - - - - - - - -; -
 # No catalogue.
 ~ => 
 "#;
@@ -81,8 +82,9 @@ fn put_catalogue(
     out.extend_from_slice(catalogue.address.as_slice())?;
     put_names(out, catalogue.databases.as_slice())?;
     out.extend_from_slice(match settings.charset {
-        Charset::Utf8 => b"; utf-8".as_slice(),
-        Charset::Latin1 => b"; latin-1".as_slice(),
+        None => b"; -".as_slice(),
+        Some(Charset::Utf8) => b"; utf-8".as_slice(),
+        Some(Charset::Latin1) => b"; latin-1".as_slice(),
     })?;
     put_text(out, &settings.syntax)?;
     put_text(out, &settings.elements)?;

@@ -238,7 +238,7 @@ module _ (l : Laws) (choice : ChoiceTexts) (search : SearchTexts) (view : View) 
     (entries : List TraceEntry) (trace : Trace) (p : Playback) where
   -- the same plan, and the same head
   core : (e : NetworkRun) (by : IsTraceBy choice search file e r entries) → IsNetworkFile search file e
-      → IsAskedOf choice [] view e r → AreNoticed choice.limits (length e.questions) r entries → AreShort choice.limits
+      → IsAskedOf choice [] view [] e r → AreNoticed choice.limits (length e.questions) r entries → AreShort choice.limits
       → IsReplayedBy view trace (head_by choice search file by.start) e p → trace.entries.items ≡ entries
       → trace.is_cut ≡ false → IsSameFinished r p.finished × (p.is_cut ≡ false)
   core e by from of told short again items whole =
@@ -293,8 +293,8 @@ module _ (l : Laws) (choice : ChoiceTexts) (search : SearchTexts) (view : View) 
           known = known;
           stops = stop;
           list = of.put.listed.list
-              ∙ l.view e.names view r.stops.items p.finished.stops.items r.meta.pool.knowledge stop
-              ∙ ap (printed e.names view p.finished.stops.items) known.facts ∙ sym again.listed.list;
+              ∙ l.view e.names view [] r.stops.items p.finished.stops.items r.meta.pool.knowledge stop
+              ∙ ap (printed e.names view [] p.finished.stops.items) known.facts ∙ sym again.listed.list;
         },
         again.cut ∙ ap (λ (b : Bool). b || not again.replayed.is_over) whole
             ∙ ap (λ (b : Bool). not b) so.1,
@@ -321,7 +321,7 @@ module _ (l : Laws) (choice : ChoiceTexts) (search : SearchTexts) (view : View) 
       subst (λ (k : HeadTexts). IsNetworkFile k.search k.world g) same from.from in
       let one : g ≡ e = l.plan asker search file g e (plan_of plan) (plan_of t.traced.1) in
       let two : t.asked.0 ≡ e = l.plan asker search file t.asked.0 e (plan_of t.asked.1) (plan_of t.traced.1) in
-      core e by t.traced.1 (subst (λ (z : NetworkRun). IsAskedOf choice [] view z r) two t.asked.2) t.noticed t.short
+      core e by t.traced.1 (subst (λ (z : NetworkRun). IsAskedOf choice [] view [] z r) two t.asked.2) t.noticed t.short
       (subst (λ (z : NetworkRun). IsReplayedBy view trace head z p) one
       (subst (λ (k : HeadTexts). IsReplayedBy view trace k g p) same again)) read.0 read.1
 

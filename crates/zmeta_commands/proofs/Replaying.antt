@@ -96,7 +96,7 @@ pub network_replayed : (view : View) (trace : Trace) (h : HeadTexts) (e : Networ
     (chosen : List (Option (List ℕ))) (replayed : Replayed) (limits : Limits) → IsChoice h e chosen
     → IsReplayed (inquiry_by e.questions e.settings h.begun chosen) trace.entries.items replayed
     → AreLimitsBy h.begun limits
-    → IsListed limits [] replayed.notices.items replayed.meta e.names chosen view finished
+    → IsListed limits [] replayed.notices.items replayed.meta e.names chosen view [] finished
     → cut ≡ trace.is_cut || not replayed.is_over
     → IsReplayedBy view trace h e (record { finished = finished; is_cut = cut })
 network_replayed view trace h e finished cut chosen replayed limits picks is by listed ends = record {
@@ -108,7 +108,7 @@ network_replayed view trace h e finished cut chosen replayed limits picks is by 
   meta = listed.of;
   limits = limits;
   by = by;
-  listed = subst (λ (m : MetaLinks). IsListed limits [] replayed.notices.items m e.names chosen view finished)
+  listed = subst (λ (m : MetaLinks). IsListed limits [] replayed.notices.items m e.names chosen view [] finished)
       (sym listed.of) listed;
   cut = ends;
 }

@@ -1,5 +1,5 @@
 -- The catalogues of a file, planned and asked.
-use Rattle.std.proofs.Common.{◌≡◌, sym, ◌∙◌, ap, subst, subst₂, ℕ, zero, suc, ◌+◌, ◌<◌, arith, List, [], ◌∷◌, ◌++◌, length, take, get_or, slice_index_or, slice_get, Option, Some, None, Result, Ok, Err, IfSome}
+use Rattle.std.proofs.Common.{◌≡◌, refl, sym, ◌∙◌, ap, subst, subst₂, ℕ, zero, suc, ◌+◌, ◌<◌, arith, List, [], ◌∷◌, ◌++◌, length, take, get_or, slice_index_or, slice_get, Option, Some, None, Result, Ok, Err, IfSome}
 use Rattle.std.specs.Option.{option_map}
 use Rattle.std.proofs.Math.Seq.{get_or-append_seam}
 use Rattle.std.proofs.lemmas.List.{take_more, length-append}
@@ -22,6 +22,7 @@ use Rattle.zmeta_world.specs.declared.world.End.TheVariants as ends
 use Rattle.zmeta_world.specs.declared.world.NamedHost.{NamedHost}
 use Rattle.zmeta_world.specs.declared.world.World.{World}
 use Rattle.zmeta_world.specs.NetworkRuns.{IsNetworkRun, host_at, IsFirstTargetLine}
+use Rattle.zmarc.specs.declared.charset.Charset.{Charset}
 use Rattle.zoom.specs.HostWaits.{HostWaits}
 use Rattle.zmeta_commands.specs.declared.catalogue_files.UnionRun.{UnionRun}
 use Rattle.zmeta_commands.specs.declared.finished.Finished.{Finished}
@@ -121,9 +122,11 @@ no_memory given options (Some octets) = tt
 -- the union has this plan
 pub planned : (given : LimitOptions) (options : SearchOptions) (file : Option (List ℕ)) (u : Union) (e : NetworkRun)
     (waits : List HostWaits) → IfSome file (λ octets. IsUnion octets options u) → IsNetworkRun asker u.world e
-    → AreOwnWaits given u.waits.items waits → IfSome file (λ octets. IsUnionPlan given options octets e waits)
+    → AreOwnWaits given u.waits.items waits
+    → IfSome file (λ octets. IsUnionPlan given options octets e waits u.charsets.items)
 planned given options None u e waits is plan own = tt
-planned given options (Some octets) u e waits is plan own = record { union = u; of = is; plan = plan; own = own }
+planned given options (Some octets) u e waits is plan own =
+    record { union = u; of = is; plan = plan; own = own; sets = refl }
 
 -- a fault of a union, or of its plan
 pub of_union : (path : List ℕ) (f : UnionFault) → IsOfUnion path f → IsOfUnionPlan path f
@@ -154,12 +157,14 @@ unasked choice given options view None path f of h = tt
 unasked choice given options view (Some octets) path f of h = unasked_in choice given options view octets path f of h
 
 unchosen_in : (choice : ChoiceTexts) (given : LimitOptions) (options : SearchOptions) (view : View) (octets : List ℕ)
-    (e : NetworkRun) (waits : List HostWaits) (f : Fault) → IsUnionPlan given options octets e waits
+    (e : NetworkRun) (waits : List HostWaits) (charsets : List (Option Charset)) (f : Fault)
+    → IsUnionPlan given options octets e waits charsets
     → AddressesResult choice.only e.names e.addresses (Err f)
     → AskUnionResult choice given options view octets (Err (unions.Fault f))
-unchosen_in choice given options view octets e waits (NoQuestion unknown) plan h = (e, waits, plan, h)
-unchosen_in choice given options view octets e waits Memory plan h = tt
-unchosen_in choice given options view octets e waits f plan h = absurd h
+unchosen_in choice given options view octets e waits charsets (NoQuestion unknown) plan h =
+    (e, waits, charsets, plan, h)
+unchosen_in choice given options view octets e waits charsets Memory plan h = tt
+unchosen_in choice given options view octets e waits charsets f plan h = absurd h
 
 -- a chosen name is that of no catalogue
 pub unchosen : (choice : ChoiceTexts) (given : LimitOptions) (options : SearchOptions) (view : View)
@@ -169,7 +174,7 @@ pub unchosen : (choice : ChoiceTexts) (given : LimitOptions) (options : SearchOp
     → IfSome file (λ octets. AskUnionResult choice given options view octets (Err (unions.Fault f)))
 unchosen choice given options view None run f plan h = tt
 unchosen choice given options view (Some octets) run f plan h =
-    unchosen_in choice given options view octets run.network run.waits.items f plan h
+    unchosen_in choice given options view octets run.network run.waits.items run.charsets.items f plan h
 
 -- no memory is found for asking
 pub no_memory_asked : (choice : ChoiceTexts) (given : LimitOptions) (options : SearchOptions) (view : View)
@@ -183,11 +188,16 @@ pub asked : (choice : ChoiceTexts) (given : LimitOptions) (options : SearchOptio
     (file : Option (List ℕ)) (run : UnionRun) (chosen : List (Option (List ℕ))) (r : Finished)
     → IfSome file (λ octets. PlanUnionResult given options octets (Ok run))
     → AddressesResult choice.only run.network.names run.network.addresses (Ok chosen)
-    → IsAskedAt choice run.waits.items chosen view run.network r
+    → IsAskedAt choice run.waits.items chosen view run.charsets.items run.network r
     → IfSome file (λ octets. AskUnionResult choice given options view octets (Ok r))
 asked choice given options view None run chosen r plan picks put = tt
-asked choice given options view (Some octets) run chosen r plan picks put =
-    (run.network, run.waits.items, plan, record { known = picks.0; chosen = chosen; picks = picks.1; put = put })
+asked choice given options view (Some octets) run chosen r plan picks put = (
+  run.network,
+  run.waits.items,
+  run.charsets.items,
+  plan,
+  record { known = picks.0; chosen = chosen; picks = picks.1; put = put },
+)
 
 -- a fault of asking
 pub of_planning : (path : List ℕ) (f : UnionFault) → IsOfUnionPlan path f → IsOfUnionAsk path f

@@ -1,5 +1,6 @@
 -- What `ask` prints and reports for a world file, and how it ends.
 use Rattle.std.specs.Prelude.{◌≡◌, ◌⊎◌, ℕ, List, [], Option, Result, Ok, Err}
+use Rattle.zmarc.specs.declared.charset.Charset.{Charset}
 use Rattle.zmeta_args.specs.declared.arguments.View.{View}
 use Rattle.zmeta_world.specs.declared.world.World.{World}
 use Rattle.zmeta_world.specs.declared.network.NetworkRun.{NetworkRun}
@@ -44,24 +45,24 @@ ReadNetworkResult search file (Err f) = IsSearchRefusal search f
 -- ---- hosts that were asked
 
 -- the questions of a plan with one of these addresses were put to its host, of which this was noticed, with the waiting
--- times that hosts have of their own; and the list has the facts
+-- times that hosts have of their own; and the list has the facts, by the character sets that are known
 pub record IsAskedAt (choice : ChoiceTexts) (waits : List HostWaits) (chosen : List (Option (List ℕ))) (view : View)
-    (e : NetworkRun) (r : Finished) : Type 0 where
+    (charsets : List (Option Charset)) (e : NetworkRun) (r : Finished) : Type 0 where
   pub asked : IsAsked e.questions e.settings choice.manner choice.limits waits chosen r.meta
   pub noticed : List Notice
-  pub listed : IsListed choice.limits waits noticed r.meta e.names chosen view r
+  pub listed : IsListed choice.limits waits noticed r.meta e.names chosen view charsets r
 
 -- each given name is a question's, and each chosen question was put to its host so
-pub record IsAskedOf (choice : ChoiceTexts) (waits : List HostWaits) (view : View) (e : NetworkRun) (r : Finished)
-    : Type 0 where
+pub record IsAskedOf (choice : ChoiceTexts) (waits : List HostWaits) (view : View) (charsets : List (Option Charset))
+    (e : NetworkRun) (r : Finished) : Type 0 where
   pub known : AreAllKnown choice.only e.names
   pub chosen : List (Option (List ℕ))
   pub picks : IsChosen choice.only e.names e.addresses chosen
-  pub put : IsAskedAt choice waits chosen view e r
+  pub put : IsAskedAt choice waits chosen view charsets e r
 
 -- the hosts of the file were asked
 abbrev pub AreAsked : ChoiceTexts → SearchTexts → View → List ℕ → Finished → Type 0
-AreAsked choice search view file r = (e : NetworkRun) × IsNetworkFile search file e × IsAskedOf choice [] view e r
+AreAsked choice search view file r = (e : NetworkRun) × IsNetworkFile search file e × IsAskedOf choice [] view [] e r
 
 -- the name is the first that no question of the file has
 abbrev pub HasNoQuestion : List (List ℕ) → SearchTexts → List ℕ → List ℕ → Type 0
@@ -78,9 +79,9 @@ AskFileResult choice search view file (Err Memory) = Unit {0}
 AskFileResult choice search view file (Err f) = IsSearchRefusal search f
 
 -- the finished connections of a network plan whose hosts have these waiting times of their own, or why they were not
--- asked
+-- asked; no character set is known of their records
 abbrev pub AskNetworkResult : ChoiceTexts → List HostWaits → View → NetworkRun → Result Finished Fault → Type 0
-AskNetworkResult choice waits view e (Ok r) = IsAskedOf choice waits view e r
+AskNetworkResult choice waits view e (Ok r) = IsAskedOf choice waits view [] e r
 AskNetworkResult choice waits view e (Err (NoQuestion unknown)) = IsFirstUnknown choice.only e.names unknown.now
 AskNetworkResult choice waits view e (Err Memory) = Unit {0}
 AskNetworkResult choice waits view e (Err _) = ⊥

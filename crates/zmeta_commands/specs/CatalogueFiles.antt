@@ -2,6 +2,7 @@
 use Rattle.std.specs.Prelude.{◌≡◌, ◌⊎◌, ℕ, Bool, true, false, List, [], ◌∷◌, ◌++◌, codes, Option, Some, None, Result, Ok, Err, IfSome, IfErr}
 use Rattle.std.specs.declared.time.Duration.{Duration}
 use Rattle.std.specs.Option.{option_or}
+use Rattle.zmarc.specs.declared.charset.Charset.{Charset}
 use Rattle.zmeta_args.specs.declared.arguments.LimitOptions.{LimitOptions}
 use Rattle.zmeta_args.specs.declared.arguments.SearchOptions.{SearchOptions}
 use Rattle.zmeta_args.specs.declared.arguments.View.{View}
@@ -61,25 +62,28 @@ AreOwnWaits given (said ∷ all) (own ∷ waits) = IsOwnWait given said own × A
 
 -- ---- the catalogues of a file
 
--- the union of the catalogues of the file, as the options ask it, has this network plan, and its hosts have these
--- waiting times of their own
+-- the union of the catalogues of the file, as the options ask it, has this network plan, its hosts have these waiting
+-- times of their own, and their records these character sets, as far as the file gives them
 pub record IsUnionPlan (given : LimitOptions) (options : SearchOptions) (file : List ℕ) (e : NetworkRun)
-    (waits : List HostWaits)
+    (waits : List HostWaits) (charsets : List (Option Charset))
     : Type 0 where
   pub union : Union
   pub of : IsUnion file options union
   pub plan : IsNetworkRun asker union.world e
   pub own : AreOwnWaits given union.waits.items waits
+  pub sets : charsets ≡ union.charsets.items
 
--- the same of some plan and waiting times, of which this holds
+-- the same of some plan, waiting times and character sets, of which this holds
 abbrev pub HasUnionPlan
-    : LimitOptions → SearchOptions → List ℕ → (NetworkRun → List HostWaits → Type 0) → Type 0
+    : LimitOptions → SearchOptions → List ℕ → (NetworkRun → List HostWaits → List (Option Charset) → Type 0) → Type 0
 HasUnionPlan given options file Holds =
-    (e : NetworkRun) × (waits : List HostWaits) × IsUnionPlan given options file e waits × Holds e waits
+    (e : NetworkRun) × (waits : List HostWaits) × (charsets : List (Option Charset))
+    × IsUnionPlan given options file e waits charsets × Holds e waits charsets
 
--- the network plan of the catalogues of a file, and their waiting times, or what is refused
+-- the network plan of the catalogues of a file, their waiting times and their character sets, or what is refused
 abbrev pub PlanUnionResult : LimitOptions → SearchOptions → List ℕ → Result UnionRun UnionFault → Type 0
-PlanUnionResult given options file (Ok run) = IsUnionPlan given options file run.network run.waits.items
+PlanUnionResult given options file (Ok run) =
+    IsUnionPlan given options file run.network run.waits.items run.charsets.items
 PlanUnionResult given options file (Err (unions.Fault Memory)) = Unit {0}
 PlanUnionResult given options file (Err f) = UnionResult file options (Err f)
 
@@ -87,14 +91,14 @@ PlanUnionResult given options file (Err f) = UnionResult file options (Err f)
 abbrev pub AreCataloguesAsked
     : ChoiceTexts → LimitOptions → SearchOptions → View → List ℕ → Finished → Type 0
 AreCataloguesAsked choice given options view file r =
-    HasUnionPlan given options file (λ e waits. IsAskedOf choice waits view e r)
+    HasUnionPlan given options file (λ e waits charsets. IsAskedOf choice waits view charsets e r)
 
 -- the finished connections of the catalogues of a file, or why they were not asked
 abbrev pub AskUnionResult
     : ChoiceTexts → LimitOptions → SearchOptions → View → List ℕ → Result Finished UnionFault → Type 0
 AskUnionResult choice given options view file (Ok r) = AreCataloguesAsked choice given options view file r
 AskUnionResult choice given options view file (Err (unions.Fault (NoQuestion unknown))) =
-    HasUnionPlan given options file (λ e waits. IsFirstUnknown choice.only e.names unknown.now)
+    HasUnionPlan given options file (λ e waits charsets. IsFirstUnknown choice.only e.names unknown.now)
 AskUnionResult choice given options view file (Err (unions.Fault Memory)) = Unit {0}
 AskUnionResult choice given options view file (Err f) = UnionResult file options (Err f)
 

@@ -4,6 +4,7 @@ use Rattle.std.specs.Prelude.{codes, slice_get, if◌then◌else◌, Option, Som
 use Rattle.std.specs.Option.{unwrap_or}
 use Rattle.zapdu.specs.Text.{quoted}
 use Rattle.zmeta_args.specs.declared.arguments.View.{View}
+use Rattle.zmarc.specs.declared.charset.Charset.{Charset}
 use Rattle.zknow.specs.Known.{HasFailure}
 use Rattle.zknow_stops.specs.declared.stop.Stop.{Stop}
 use Rattle.zoom.specs.HostWaits.{HostWaits}
@@ -33,14 +34,16 @@ abbrev pub asker : List ℕ
 asker = codes "zmeta"
 
 -- the list of the facts of these connections, and why they stopped, with these limits and waiting times of hosts' own,
--- and by what was noticed of their hosts; their questions were put to these addresses, or to targets in memory
+-- and by what was noticed of their hosts; their questions were put to these addresses, or to targets in memory. These
+-- are the character sets of their records, as far as they are known.
 pub record IsListed (limits : Limits) (waits : List HostWaits) (noticed : List Notice) (meta : MetaLinks)
-    (names : List (List ℕ)) (addresses : List (Option (List ℕ))) (view : View) (r : Finished) : Type 0 where
+    (names : List (List ℕ)) (addresses : List (Option (List ℕ))) (view : View)
+    (charsets : List (Option Charset)) (r : Finished) : Type 0 where
   pub of : r.meta ≡ meta
   pub at : r.addresses.items ≡ addresses
   pub named : r.names ≡ names
   pub stopped : AreStops limits waits noticed meta r.stops.items
-  pub list : r.list.items ≡ printed names view r.stops.items meta.pool.knowledge
+  pub list : r.list.items ≡ printed names view charsets r.stops.items meta.pool.knowledge
 
 -- each connection has a name, and there are fewer than 2 ^ 32
 pub record HasNames (r : Finished) : Type 0 where

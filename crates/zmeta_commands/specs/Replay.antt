@@ -120,7 +120,7 @@ pub record IsReplayedBy (view : View) (trace : Trace) (h : HeadTexts) (e : Netwo
   pub meta : r.finished.meta ≡ replayed.meta
   pub limits : Limits
   pub by : AreLimitsBy h.begun limits
-  pub listed : IsListed limits [] replayed.notices.items r.finished.meta e.names chosen view r.finished
+  pub listed : IsListed limits [] replayed.notices.items r.finished.meta e.names chosen view [] r.finished
   pub cut : r.is_cut ≡ trace.is_cut || not replayed.is_over
 
 -- the entry of this number speaks of a connection that is not there, or a chosen name is no question's

@@ -41,7 +41,7 @@ ReadInMemoryResult search file (Err f) = IsSearchRefusal search f
 -- the plan was run: each target was asked its question, and the list has the facts; nothing was noticed of a host
 abbrev pub IsListedRun : View → InMemoryRun → Finished → Type 0
 IsListedRun view a r = IsRun a.questions a.settings a.targets r.meta
-    × ((limits : Limits) × IsListed limits [] [] r.meta a.names [] view r)
+    × ((limits : Limits) × IsListed limits [] [] r.meta a.names [] view [] r)
 
 -- the plan was run, and each exchange was complete unless a reply was longer than a message may be; the run began with
 -- the moves of the plan, in order

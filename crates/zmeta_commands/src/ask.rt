@@ -25,6 +25,7 @@ use std::alloc::{AllocError, Global};
 use std::io::Write;
 use std::net::Net;
 use std::time::Clock;
+use zmarc::Charset;
 use zmeta_args::{LimitOptions, SearchOptions, View};
 use zmeta_catalogue_files::is_catalogue_file;
 use zmeta_devices::fault::{Fault, Status};
@@ -55,8 +56,9 @@ pub(crate) struct Answered<T> {
 ///
 /// The file is a world file. If `search` has a query, wanted positions, an element set or a syntax, it replaces that of
 /// every question. Or the path is that of a file of catalogues (`zmeta_catalogue_files::is_catalogue_file`). Then
-/// `search` is put to each catalogue. `given` are the options of which `choice` has the limits; a waiting time that
-/// they do not give is the catalogue's own, if its file has one.
+/// `search` is put to each catalogue. `given` are the options of which `choice` has the limits; a waiting time that they
+/// do not give is the catalogue's own, if its file has one. The records of a catalogue whose file gives a charset are
+/// read in it, in all views but the list.
 ///
 /// Writes a line on `errors` for each connection that failed. If `paths` has a path `saved`, then makes one file
 /// there, the saved file of the facts, and returns `Done` or `Failed` only if it holds them all. Makes no other file.
@@ -224,6 +226,7 @@ fn ask_network<'a, S: Folder + Net + Clock, P: Write + Drop>(
         begun,
         choice,
         view,
+        &[],
         screen,
     )?;
     Ok(answered)
@@ -250,7 +253,8 @@ pub(crate) fn chosen_of<'a>(
 }
 
 /// Asks the hosts at the addresses of the chosen questions, and makes the list. `waits` are the waiting times that
-/// hosts have of their own. If it is not empty, no trace is left.
+/// hosts have of their own. If it is not empty, no trace is left. `charsets` are the character sets that the records of
+/// hosts are read in, as far as they are known.
 pub(crate) fn ask_chosen<S: Net + Clock, P: Write + Drop, T: Write + Drop>(
     alloc: Global,
     system: &S,
@@ -260,12 +264,13 @@ pub(crate) fn ask_chosen<S: Net + Clock, P: Write + Drop, T: Write + Drop>(
     trace: Option<Tracer<T>>,
     choice: Choice<'_, '_>,
     view: View<'_>,
+    charsets: &[Option<Charset>],
     screen: Option<P>,
 ) -> Result<Answered<T>, AllocError>
     requires can { CanBeAsked network }
     requires equal { length chosen.items ≡ length network.addresses }
     ensures asked { IfOk result (λ answered. IsAskedAt (choice_texts choice.entry) waits.now chosen.items view.entry
-        network answered.finished) }
+        charsets.now network answered.finished) }
     ensures traced { IfOk result (λ answered. IsTracedAsk T.contents network.questions network.settings
         choice.entry.manner choice.entry.limits waits.now chosen.items trace answered.finished.meta answered.trace) }
     ensures sound { IfOk result (λ answered. HasNames answered.finished) }
@@ -304,6 +309,7 @@ pub(crate) fn ask_chosen<S: Net + Clock, P: Write + Drop, T: Write + Drop>(
         &limits,
         waits,
         view,
+        charsets,
     )?;
     Ok(Answered {
         finished,

@@ -17,6 +17,7 @@ use std::alloc::{AllocError, Global};
 use std::io::Write;
 use std::net::Net;
 use std::time::{Clock, Duration};
+use zmarc::Charset;
 use zmeta_args::{LimitOptions, SearchOptions, View};
 use zmeta_catalogue_files::{CatalogueWaits, Union, UnionFault, union_at};
 use zmeta_devices::fault::{Fault, Status};
@@ -25,14 +26,17 @@ use zmeta_devices::output::Output;
 use zmeta_world::network::NetworkRun;
 use zoom::{HostWaits, Tracer};
 
-/// The network run of the catalogues of a file, and the waiting times that its hosts have of their own.
+/// The network run of the catalogues of a file, the waiting times that its hosts have of their own, and the character
+/// sets of their records.
 struct UnionRun {
     network: NetworkRun,
     waits: Vec<HostWaits>,
+    charsets: Vec<Option<Charset>>,
 }
 
-/// Puts the search of the options to each catalogue of a file, and prints what is known, as `ask_named` does for a
-/// world file. A catalogue is waited for as an option says; if none does, as its file says; else as `choice` does.
+/// Puts the search of the options to each catalogue of a file, and prints what is known, as `ask_named` does for a world
+/// file. A catalogue is waited for as an option says; if none does, as its file says; else as `choice` does. The records
+/// of a catalogue are read in the charset that its file gives, if it gives one.
 ///
 /// If `trace` is a path, reads nothing, writes the reason on `errors` and returns `Refused`: a trace holds a world
 /// file. `Memory` if no memory is found for that.
@@ -143,13 +147,21 @@ fn plan_union<'a, F: Folder>(
     ensures path { IfErr result (IsOfUnionPlan path.entry.now) }
 {
     let union = union_at(alloc, files, path, search)?;
-    let Union { world, waits } = union;
+    let Union {
+        world,
+        waits,
+        charsets,
+    } = union;
     let network = match plan(alloc, world) {
         Ok(network) => network,
         Err(fault) => return Err(UnionFault::Fault(fault)),
     };
     let waits = own_waits(alloc, given, waits.as_slice())?;
-    Ok(UnionRun { network, waits })
+    Ok(UnionRun {
+        network,
+        waits,
+        charsets,
+    })
 }
 
 /// Asks the chosen catalogues of the file at a path.
@@ -170,7 +182,11 @@ fn ask_union<'a, S: Folder + Net + Clock, P: Write + Drop>(
     ensures path { IfErr result (IsOfUnionAsk path.entry.now) }
 {
     let run = plan_union(alloc, system, path, given, search)?;
-    let UnionRun { network, waits } = run;
+    let UnionRun {
+        network,
+        waits,
+        charsets,
+    } = run;
     let chosen = match chosen_of(alloc, choice.only, &network) {
         Ok(chosen) => chosen,
         Err(fault) => return Err(UnionFault::Fault(fault)),
@@ -185,6 +201,7 @@ fn ask_union<'a, S: Folder + Net + Clock, P: Write + Drop>(
         untraced,
         choice,
         view,
+        charsets.as_slice(),
         screen,
     )?;
     let Answered { finished, trace: _ } = answered;

@@ -13,6 +13,7 @@ use std::alloc::{AllocError, Global};
 use std::io::Write;
 use zknow::Names;
 use zknow_stops::Stop;
+use zmarc::Charset;
 use zmeta_args::View;
 use zmeta_devices::fault::{Fault, Status, end, report_failure};
 use zmeta_devices::files::Folder;
@@ -51,7 +52,8 @@ pub struct Paths<'a> {
 
 impl Finished {
     /// Returns finished connections, with the list of their facts, and why they stopped. `noticed` is what was noticed
-    /// of the host of each connection, and `waits` are the waiting times that hosts have of their own.
+    /// of the host of each connection, `waits` are the waiting times that hosts have of their own, and `charsets` the
+    /// character sets that the records of targets are read in, as far as they are known.
     pub(crate) fn new(
         alloc: Global,
         meta: Meta,
@@ -61,10 +63,11 @@ impl Finished {
         limits: &Limits,
         waits: &[HostWaits],
         view: View<'_>,
+        charsets: &[Option<Charset>],
     ) -> Result<Finished, AllocError>
         requires { length meta.pool.connections < 2 ^ 32 }
         ensures { IfOk result (IsListed limits.now waits.now noticed.now meta names addresses.items
-            view.entry) }
+            view.entry charsets.now) }
     {
         let stops = stops_of(alloc, &meta, noticed, limits, waits)?;
         let mut list = Vec::new(alloc);
@@ -72,6 +75,7 @@ impl Finished {
             alloc,
             meta.knowledge(),
             &names,
+            charsets,
             stops.as_slice(),
             view,
             &mut list,

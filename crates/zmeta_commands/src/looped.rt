@@ -91,5 +91,15 @@ fn loop_in_memory<'a, N: Net>(
         Err(error) => return Err(fault_of(error)),
     };
     let limits = Limits::default();
-    Ok(Finished::new(alloc, meta, names, Vec::new(alloc), &[], &limits, &[], view)?)
+    Ok(Finished::new(
+        alloc,
+        meta,
+        names,
+        Vec::new(alloc),
+        &[],
+        &limits,
+        &[],
+        view,
+        &[],
+    )?)
 }

@@ -315,6 +315,7 @@ fn replay_chosen<'a>(
         &limits,
         &[],
         view,
+        &[],
     )?;
     Ok(Playback {
         finished,

@@ -131,5 +131,15 @@ fn run_in_memory(alloc: Global, run: InMemoryRun, view: View<'_>) -> Result<Fini
         moves.as_slice(),
     )?;
     let limits = Limits::default();
-    Finished::new(alloc, meta, names, Vec::new(alloc), &[], &limits, &[], view)
+    Finished::new(
+        alloc,
+        meta,
+        names,
+        Vec::new(alloc),
+        &[],
+        &limits,
+        &[],
+        view,
+        &[],
+    )
 }

@@ -91,13 +91,13 @@ module _ (octets : List ℕ → Option (List ℕ)) (earlier later : List ℕ) wh
 
 pub part_put : {E : Type 0} (view : View) (kind : ChangeKind) (names : List (List ℕ)) (changes : List Change)
     (facts : List Fact) (old counted new : List ℕ) (r : Result (Unit {0}) E) → IsPart kind changes facts
-    → counted ≡ old ++ count_text kind changes → OnOk r (new ≡ counted ++ printed names view [] facts)
+    → counted ≡ old ++ count_text kind changes → OnOk r (new ≡ counted ++ printed names view [] [] facts)
     → OnOk r (HasPart view kind names changes old new)
 part_put view kind names changes facts old counted new (Err e) is count put = tt
 part_put view kind names changes facts old counted new (Ok u) is count put = record {
   facts = facts;
   are = is;
-  appended = put ∙ ap (λ z. z ++ printed names view [] facts) count;
+  appended = put ∙ ap (λ z. z ++ printed names view [] [] facts) count;
 }
 
 pub parts_put : {E : Type 0} (view : View) (earlier later : List (List ℕ)) (changes : List Change)

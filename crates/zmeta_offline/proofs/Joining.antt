@@ -165,8 +165,8 @@ put_joined view octets paths facts text old new status (Err f) l k p = absurd p
 pub join_done : (view : View) (octets : List ℕ → Option (List ℕ)) (paths names : List (List ℕ)) (known : List Fact)
     (old new : Device) (start text written : List ℕ) (status : Status) (r : Result Status Fault)
     → AreJoined octets names paths known → IsKnownStatus known status → start ≡ []
-    → text ≡ start ++ printed names view [] known → written ≡ text → PutListResult written status old new r
+    → text ≡ start ++ printed names view [] [] known → written ≡ text → PutListResult written status old new r
     → JoinResult view octets paths old new r
 join_done view octets paths names known old new start text written status r joined is s t o w =
     put_joined view octets paths known written old new status r
-    (names, joined, o ∙ t ∙ ap (λ z. z ++ printed names view [] known) s) is w
+    (names, joined, o ∙ t ∙ ap (λ z. z ++ printed names view [] [] known) s) is w

@@ -1,5 +1,6 @@
 -- What is printed depends on what is told of why connections stopped, and on nothing else of it.
 use Rattle.std.proofs.Common.{◌≡◌, refl, ap, ℕ, ◌+◌, List, [], ◌∷◌, ◌++◌, take, drop, Option, Some, None}
+use Rattle.zmarc.specs.declared.charset.Charset.{Charset}
 use Rattle.zknow.specs.declared.fact.Fact.{Fact}
 use Rattle.zknow.specs.declared.tables.keys.SetKey.{SetKey}
 use Rattle.zknow_html.specs.Catalogues.{stop_row, stop_rows, stops_from}
@@ -82,37 +83,43 @@ same_lines names target (s ∷ ss) (t ∷ ts) is =
 
 -- ---- each view
 
-same_titles : (names : List (List ℕ)) (one other : List (Option Stop)) (facts : List Fact)
-    → AreSameStops one other → titles names one facts ≡ titles names other facts
+same_titles : (names : List (List ℕ)) (charsets : List (Option Charset)) (one other : List (Option Stop))
+    (facts : List Fact)
+    → AreSameStops one other → titles names charsets one facts ≡ titles names charsets other facts
 unfolding titles
-same_titles names one other facts is =
+same_titles names charsets one other facts is =
     rw (same_head (shown_names names) facts 0 one other (sets_of facts) is) refl
 
-same_records : (names : List (List ℕ)) (one other : List (Option Stop)) (facts : List Fact)
-    → AreSameStops one other → whole_records names one facts ≡ whole_records names other facts
+same_records : (names : List (List ℕ)) (charsets : List (Option Charset)) (one other : List (Option Stop))
+    (facts : List Fact)
+    → AreSameStops one other → whole_records names charsets one facts ≡ whole_records names charsets other facts
 unfolding whole_records
-same_records names one other facts is =
+same_records names charsets one other facts is =
     rw (same_head (shown_names names) facts 0 one other (sets_of facts) is) refl
 
-same_tables : (shown : List (List ℕ)) (one other : List (Option Stop)) (facts : List Fact)
-    → AreSameStops one other → tables shown one facts ≡ tables shown other facts
+same_tables : (shown : List (List ℕ)) (charsets : List (Option Charset)) (one other : List (Option Stop))
+    (facts : List Fact)
+    → AreSameStops one other → tables shown charsets one facts ≡ tables shown charsets other facts
 unfolding tables
-same_tables shown one other facts is = rw (same_rows shown 0 one other is) refl
+same_tables shown charsets one other facts is = rw (same_rows shown 0 one other is) refl
 
-same_page : (heading : List ℕ) (names : List (List ℕ)) (one other : List (Option Stop)) (facts : List Fact)
-    → AreSameStops one other → page heading names one facts ≡ page heading names other facts
+same_page : (heading : List ℕ) (names : List (List ℕ)) (charsets : List (Option Charset))
+    (one other : List (Option Stop)) (facts : List Fact)
+    → AreSameStops one other → page heading names charsets one facts ≡ page heading names charsets other facts
 unfolding page
-same_page heading names one other facts is = rw (same_tables (shown_names names) one other facts is) refl
+same_page heading names charsets one other facts is =
+    rw (same_tables (shown_names names) charsets one other facts is) refl
 
-same_json : (names : List (List ℕ)) (one other : List (Option Stop)) (facts : List Fact)
-    → AreSameStops one other → json_lines names one facts ≡ json_lines names other facts
+same_json : (names : List (List ℕ)) (charsets : List (Option Charset)) (one other : List (Option Stop))
+    (facts : List Fact)
+    → AreSameStops one other → json_lines names charsets one facts ≡ json_lines names charsets other facts
 unfolding json_lines
-same_json names one other facts is = rw (same_lines names 0 one other is) refl
+same_json names charsets one other facts is = rw (same_lines names 0 one other is) refl
 
 pub same_view : SameViewLaw
-same_view names Text one other facts is = refl
-same_view names Hex one other facts is = refl
-same_view names Titles one other facts is = same_titles names one other facts is
-same_view names Fields one other facts is = same_records names one other facts is
-same_view names (Html heading) one other facts is = same_page heading.now names one other facts is
-same_view names Json one other facts is = same_json names one other facts is
+same_view names Text charsets one other facts is = refl
+same_view names Hex charsets one other facts is = refl
+same_view names Titles charsets one other facts is = same_titles names charsets one other facts is
+same_view names Fields charsets one other facts is = same_records names charsets one other facts is
+same_view names (Html heading) charsets one other facts is = same_page heading.now names charsets one other facts is
+same_view names Json charsets one other facts is = same_json names charsets one other facts is

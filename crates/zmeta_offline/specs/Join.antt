@@ -107,7 +107,7 @@ module _ (octets : List ℕ → Option (List ℕ)) where
   -- the list of the facts of all files together
   abbrev pub IsListOf : View → List (List ℕ) → List Fact → List ℕ → Type 0
   IsListOf view paths facts text =
-      (names : List (List ℕ)) × AreJoined names paths facts × (text ≡ printed names view [] facts)
+      (names : List (List ℕ)) × AreJoined names paths facts × (text ≡ printed names view [] [] facts)
 
 -- ---- the command
 
@@ -165,7 +165,7 @@ pub record ListAndSaveResult (names : List (List ℕ)) (facts : List Fact) (view
     (old new : MadeFiles) (before after : Outputs) (result : Result Status Fault) : Type 0 where
   pub shown : Result (Unit {0}) Fault
   pub kept : Result (Unit {0}) Fault
-  pub list : ListFactsResult (printed names view [] facts) before.output after.output shown
+  pub list : ListFactsResult (printed names view [] [] facts) before.output after.output shown
   pub file : SaveFactsResult names facts saved old new kept
   pub end : IsEndOfBoth facts shown kept before.errors after.errors result
 

@@ -33,7 +33,7 @@ pub record HasPart (view : View) (kind : ChangeKind) (names : List (List ℕ)) (
     (old new : List ℕ) : Type 0 where
   pub facts : List Fact
   pub are : IsPart kind changes facts
-  pub appended : new ≡ old ++ count_text kind changes ++ printed names view [] facts
+  pub appended : new ≡ old ++ count_text kind changes ++ printed names view [] [] facts
 
 -- The changes of each kind were appended. `earlier` and `later` are the names of the two files; what is gone stands in
 -- the earlier one.

@@ -1,5 +1,6 @@
 -- What is printed depends on what is told of why connections stopped, and on nothing else of it.
 use Rattle.std.specs.Prelude.{◌≡◌, ℕ, List, [], ◌∷◌, Option, Some, None}
+use Rattle.zmarc.specs.declared.charset.Charset.{Charset}
 use Rattle.zknow.specs.declared.fact.Fact.{Fact}
 use Rattle.zknow_stops.specs.declared.stop.Stop.{Stop}
 use Rattle.zmeta_args.specs.declared.arguments.View.{View}
@@ -27,5 +28,6 @@ AreSameStops (one ∷ ones) [] = ⊥
 -- if the same is told of each connection, the same is printed
 abbrev pub SameViewLaw : Type 0
 SameViewLaw =
-    (names : List (List ℕ)) (view : View) (one other : List (Option Stop)) (facts : List Fact)
-    → AreSameStops one other → printed names view one facts ≡ printed names view other facts
+    (names : List (List ℕ)) (view : View) (charsets : List (Option Charset)) (one other : List (Option Stop))
+    (facts : List Fact) → AreSameStops one other
+    → printed names view charsets one facts ≡ printed names view charsets other facts

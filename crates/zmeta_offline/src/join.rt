@@ -56,7 +56,7 @@ fn join_files<'a, 'o: 'a, F: Folder, W: Write>(
     let known = load_all(alloc, files, first, others)?;
     let status = known_status(&known.0);
     let mut text = Vec::new(alloc);
-    let printed = print_view(alloc, &known.0, &known.1, &[], view, &mut text);
+    let printed = print_view(alloc, &known.0, &known.1, &[], &[], view, &mut text);
     drop(known);
     printed?;
     put_list(output, text.as_slice(), status)
@@ -128,11 +128,11 @@ fn list_facts<'o, W: Write>(
     view: View<'_>,
     output: &mut Output<'o, W>,
 ) -> Result<(), Fault<'o>>
-    ensures { ListFactsResult (printed known.now.1 view.entry [] known.now.0) (output_device W.contents output.old)
+    ensures { ListFactsResult (printed known.now.1 view.entry [] [] known.now.0) (output_device W.contents output.old)
         (output_device W.contents output.new) result }
 {
     let mut text = Vec::new(alloc);
-    print_view(alloc, &known.0, &known.1, &[], view, &mut text)?;
+    print_view(alloc, &known.0, &known.1, &[], &[], view, &mut text)?;
     output.put(text.as_slice())
 }
 

@@ -155,7 +155,7 @@ fn put_part(
 {
     let known = part_of(alloc, found, kind)?;
     put_count(alloc, found, kind, text)?;
-    print_view(alloc, &known, names, &[], view, text)
+    print_view(alloc, &known, names, &[], &[], view, text)
 }
 
 /// Appends the changes of each kind, in a view.

@@ -12,6 +12,7 @@ use Rattle.zapdu.specs.declared.productions.external.Content.TheVariants.{Single
 use Rattle.zapdu.specs.declared.productions.external.External.{External}
 use Rattle.zmarc.specs.declared.charset.Charset.TheVariants.{Utf8}
 use Rattle.zmarc.specs.declared.format.Format.TheVariants.{Marc21}
+use Rattle.zmarc.specs.Briefs.{read_in}
 use Rattle.zmarc.specs.Laws.{IsPrintable}
 use Rattle.zmarc.specs.Shown.{IsSafe, IsSafeOctet, IsSafeText}
 use Rattle.zmarc.proofs.LawTheory.{ascii_stands}
@@ -182,7 +183,7 @@ copy_safe c =
 
 brief_safe : (v : Content) → IsSafeText (brief_of v)
 brief_safe (Single e) = nothing_safe
-brief_safe (Aligned octets) = brief_is_safe Marc21 octets
+brief_safe (Aligned octets) = brief_is_safe (read_in Marc21 None) octets
 brief_safe (Arbitrary bits) = nothing_safe
 
 marc_safe : (v : External) → IsSafeText (marc_line v)

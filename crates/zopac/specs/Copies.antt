@@ -11,7 +11,7 @@ use Rattle.zapdu.specs.declared.productions.external.Content.{Content}
 use Rattle.zapdu.specs.declared.productions.external.Content.TheVariants.{Single, Aligned, Arbitrary}
 use Rattle.zapdu.specs.declared.productions.external.External.{External}
 use Rattle.zmarc.specs.declared.format.Format.TheVariants.{Marc21}
-use Rattle.zmarc.specs.Briefs.{brief}
+use Rattle.zmarc.specs.Briefs.{brief, read_in}
 use Rattle.zmarc.specs.Shown.{IsSafeText}
 use Rattle.zopac.specs.declared.circulation.Circulation.{Circulation}
 use Rattle.zopac.specs.declared.holding.Holding.{Holding}
@@ -99,7 +99,7 @@ copy_line c = described (joined (codes "; ") (copy_parts c))
 -- the line of a record of MARC, where the content is octets
 abbrev pub brief_of : Content → List ℕ
 brief_of (Single e) = []
-brief_of (Aligned octets) = brief Marc21 octets
+brief_of (Aligned octets) = brief (read_in Marc21 None) octets
 brief_of (Arbitrary bits) = []
 
 -- the line of a record of MARC for holdings: that it is one, and what is shown of it

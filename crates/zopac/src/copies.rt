@@ -232,7 +232,12 @@ fn show_brief(alloc: Global, content: &Content) -> Result<String, AllocError>
     let mut line = String::new(alloc);
     match content {
         Content::Aligned(octets) => {
-            put_brief(alloc, octets.as_slice(), Format::Marc21, &mut line)?;
+            put_brief(
+                alloc,
+                octets.as_slice(),
+                Format::Marc21.read_in(None),
+                &mut line,
+            )?;
             Ok(line)
         }
         Content::Single(_) | Content::Arbitrary(_) => Ok(line),

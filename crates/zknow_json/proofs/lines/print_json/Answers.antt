@@ -10,6 +10,6 @@ always (Err e) P h = tt
 
 pub returns-clause-utf8 : goal.returns-clause-utf8
 returns-clause-utf8 c =
-    let lines = json_lines c.args.names.now c.args.stops.now c.args.knowledge.now in
+    let lines = json_lines c.args.names.now c.args.charsets.now c.args.stops.now c.args.knowledge.now in
     let same : c.as_str.result.now ≡ lines = c.as_str.ensures.value ∙ c.in_ok-text.ensures in
     always c.extend_from_slice.result (IsUtf8 lines) (subst IsUtf8 same c.as_str.utf8)

@@ -7,5 +7,5 @@ returns c = record {
   still_record = is_record_before;
   same_fields = fields_before;
   same_year = λ format status coded fs more w. year_behind status coded fs more w format;
-  same_line = λ format status coded fs more w t few. line_behind status coded fs more w format t few;
+  same_line = λ reading status coded fs more w t few. line_behind status coded fs more w reading t few;
 }

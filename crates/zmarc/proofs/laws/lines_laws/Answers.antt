@@ -3,6 +3,6 @@ use Rattle.zmarc.proofs.laws.lines_laws.Goals as goal
 
 pub returns : goal.returns
 returns c = record {
-  of_record = λ format status coded fs w. lines_written status coded fs w format;
+  of_record = λ reading status coded fs w. lines_written status coded fs w reading;
   of_field = data_made;
 }

@@ -1,4 +1,5 @@
-use Rattle.std.proofs.Common.{subst, List}
+use Rattle.std.proofs.Common.{subst₂, List, Option}
+use Rattle.zmarc.specs.declared.charset.Charset.{Charset}
 use Rattle.zoom.specs.HostWaits.{HostWaits}
 use Rattle.zmeta_commands.specs.Ask.{IsAskedAt}
 use Rattle.zmeta_commands.specs.Choice.{choice_texts}
@@ -14,5 +15,6 @@ returns-clause-asked g c =
     asked choice c.args.given.now c.args.search.now c.args.view
     (g.S.Folder.octets c.args.system.now c.args.path.now) run chosen r c.in_ok-run.ensures.planned
     c.in-Ok.ensures
-    (subst (λ (waits : List HostWaits). IsAskedAt choice waits chosen c.args.view run.network r)
-    c.as_slice.ensures.value c.in_ok-answered.ensures.asked)
+    (subst₂ (λ (waits : List HostWaits) (charsets : List (Option Charset)).
+    IsAskedAt choice waits chosen c.args.view charsets run.network r)
+    c.as_slice.ensures.value c.as_slice-2.ensures.value c.in_ok-answered.ensures.asked)

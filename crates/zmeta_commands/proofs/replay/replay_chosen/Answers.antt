@@ -22,7 +22,7 @@ returns-clause-replayed c =
     let is = subst (λ (entries : List TraceEntry).
     IsReplayed (inquiry_by e.questions e.settings h.begun chosen) entries replayed) c.as_slice.ensures.value fed in
     let listed = subst (λ (noticed : List Notice).
-    IsListed limits [] noticed replayed.meta e.names chosen c.args.view finished) c.as_slice-3.ensures.value
+    IsListed limits [] noticed replayed.meta e.names chosen c.args.view [] finished) c.as_slice-3.ensures.value
     c.in_ok-finished.ensures in
     network_replayed c.args.view c.args.trace.now h e finished c.is_cut.result chosen replayed limits c.requires.chosen
     is c.limits_by-limits.ensures listed c.is_cut.ensures
