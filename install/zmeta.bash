@@ -32,6 +32,7 @@ _zmeta_may() {
         --query) excluded="--query $_zmeta_terms" ;;
         --titles | --fields | --json | --hex | --html) excluded="$_zmeta_views --quiet" ;;
         --quiet) excluded="$_zmeta_views --quiet" ;;
+        --world | --toml) excluded='--world --toml' ;;
         --ipv4 | --ipv6) excluded="$_zmeta_families -4 -6" ;;
         *) excluded=$1 ;;
     esac
@@ -53,7 +54,8 @@ _zmeta_options() {
         records) options='--new --only --syntax --conflicts --explain' ;;
         show) options='--trace --only --explain' ;;
         pqf) options="$_zmeta_terms --explain" ;;
-        serve | catalogues) options=--explain ;;
+        catalogues) options="--world --toml $_zmeta_terms --query --records --syntax --explain" ;;
+        serve) options=--explain ;;
         *) left= ;;
     esac
     for option in $options; do
@@ -96,6 +98,7 @@ _zmeta_any() {
         new) valued=' --heading ' ;;
         records) valued=' --new --only --syntax ' ;;
         pqf) valued=" $_zmeta_terms " ;;
+        catalogues) valued=" $_zmeta_terms --query --records --syntax " ;;
     esac
     for ((i = 2; i < ${#words[@]}; i++)); do
         last=${words[i]}

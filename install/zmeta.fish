@@ -92,28 +92,28 @@ complete -c zmeta -n '__zmeta_in ask; and __zmeta_lacks -4 --ipv4 -6 --ipv6' -s 
     -d 'Connects to addresses of IPv6 alone'
 complete -c zmeta -n '__zmeta_in ask' -l only -x \
     -d 'Asks just the question of this name; may be given several times'
-complete -c zmeta -n '__zmeta_in ask run loop pqf; and __zmeta_lacks --query' -l title -x \
+complete -c zmeta -n '__zmeta_in ask catalogues run loop pqf; and __zmeta_lacks --query' -l title -x \
     -d 'Asks every catalogue for this in a title; may be given several times, and all terms must match'
-complete -c zmeta -n '__zmeta_in ask run loop pqf; and __zmeta_lacks --query' -l author -x \
+complete -c zmeta -n '__zmeta_in ask catalogues run loop pqf; and __zmeta_lacks --query' -l author -x \
     -d 'Asks every catalogue for this author; may be given several times'
-complete -c zmeta -n '__zmeta_in ask run loop pqf; and __zmeta_lacks --query' -l subject -x \
+complete -c zmeta -n '__zmeta_in ask catalogues run loop pqf; and __zmeta_lacks --query' -l subject -x \
     -d 'Asks every catalogue for this subject; may be given several times'
-complete -c zmeta -n '__zmeta_in ask run loop pqf; and __zmeta_lacks --query' -l isbn -x \
+complete -c zmeta -n '__zmeta_in ask catalogues run loop pqf; and __zmeta_lacks --query' -l isbn -x \
     -d 'Asks every catalogue for this ISBN; may be given several times'
-complete -c zmeta -n '__zmeta_in ask run loop pqf; and __zmeta_lacks --query' -l issn -x \
+complete -c zmeta -n '__zmeta_in ask catalogues run loop pqf; and __zmeta_lacks --query' -l issn -x \
     -d 'Asks every catalogue for this ISSN; may be given several times'
-complete -c zmeta -n '__zmeta_in ask run loop pqf; and __zmeta_lacks --query' -l year -x \
+complete -c zmeta -n '__zmeta_in ask catalogues run loop pqf; and __zmeta_lacks --query' -l year -x \
     -d 'Asks every catalogue for what was published in this year, or in years as 1980-1985, 1980- or -1985'
-complete -c zmeta -n '__zmeta_in ask run loop pqf; and __zmeta_lacks --query' -l any -x \
+complete -c zmeta -n '__zmeta_in ask catalogues run loop pqf; and __zmeta_lacks --query' -l any -x \
     -d 'Asks every catalogue for this anywhere in a record; may be given several times'
 complete -c zmeta -l query -x \
-    -n '__zmeta_in ask run loop; and __zmeta_lacks --query --title --author --subject --isbn --issn --year --any' \
+    -n '__zmeta_in ask catalogues run loop; and __zmeta_lacks --query --title --author --subject --isbn --issn --year --any' \
     -d 'Asks every catalogue this query (PQF), in place of the file\'s'
-complete -c zmeta -n '__zmeta_in ask run loop; and __zmeta_lacks --records' -l records -x \
+complete -c zmeta -n '__zmeta_in ask catalogues run loop; and __zmeta_lacks --records' -l records -x \
     -d 'Asks every catalogue for these records: a number, or positions as 1-3,10-12'
 complete -c zmeta -n '__zmeta_in ask run loop; and __zmeta_lacks --elements' -l elements -x -a 'F B' \
     -d 'Asks every catalogue for records of this element set, as F (full) or B (brief)'
-complete -c zmeta -n '__zmeta_in ask run loop; and __zmeta_lacks --syntax' -l syntax -x \
+complete -c zmeta -n '__zmeta_in ask catalogues run loop; and __zmeta_lacks --syntax' -l syntax -x \
     -a 'marc21 unimarc xml sutrs opac grs1' \
     -d 'Asks every catalogue for records of this syntax: a name as marc21, or an OID'
 complete -c zmeta -n '__zmeta_in ask replay run loop join new; and __zmeta_lacks --titles --fields --json --hex --html' -l titles \
@@ -136,6 +136,10 @@ complete -c zmeta -n '__zmeta_in show; and __zmeta_lacks --trace' -l trace -r -F
     -d 'Shows the messages of the file TRACE, which ask --trace wrote, with their times'
 complete -c zmeta -n '__zmeta_in show' -l only -x \
     -d 'Shows just what was said with this catalogue; may be given several times'
+complete -c zmeta -n '__zmeta_in catalogues; and __zmeta_lacks --world --toml' -l world \
+    -d 'Prints the world file of what asking these catalogues asks, with --query, or --title and its like'
+complete -c zmeta -n '__zmeta_in catalogues; and __zmeta_lacks --world --toml' -l toml \
+    -d 'Prints a world file as a file of catalogues'
 complete -c zmeta -n '__zmeta_in join; and __zmeta_lacks --quiet --titles --fields --json --hex --html' -l quiet \
     -d 'Prints no list: merges the files piece by piece, whatever their size'
 complete -c zmeta -n '__zmeta_in records; and __zmeta_lacks --new' -l new -r -F \

@@ -52,7 +52,7 @@ COPIED = 5000
 JSON_WORLDS, JSON_FACTS = 3000, 20000
 SEED = 1
 # the tables of rows, but those of completions
-TABLES = "show pqf catalogues join new records worlds search json help full explained words".split()
+TABLES = "show pqf catalogues conversions join new records worlds search json help full explained words".split()
 
 
 def octets_of(name):

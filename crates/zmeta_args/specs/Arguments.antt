@@ -11,7 +11,7 @@ use Rattle.zmeta_args.specs.declared.arguments.LimitOptions.{LimitOptions}
 use Rattle.zmeta_args.specs.declared.arguments.CommandLine.{CommandLine}
 use Rattle.zmeta_args.specs.declared.arguments.Arguments.{Arguments}
 use Rattle.zmeta_args.specs.declared.arguments.TheConstants.{HEADING, CHANGES_HEADING}
-use Rattle.zmeta_args.specs.declared.arguments.Arguments.TheVariants.{Show, Dialogue, Pqf, Catalogues, Join, New, Records, Run, Ask, Replay, Loop, Serve}
+use Rattle.zmeta_args.specs.declared.arguments.Arguments.TheVariants.{Show, Dialogue, Pqf, Catalogues, WorldOf, CataloguesOf, Join, New, Records, Run, Ask, Replay, Loop, Serve}
 use Rattle.zmeta_args.specs.Texts.{texts_of, now_of}
 
 -- the argument has this value
@@ -120,7 +120,14 @@ AreArgumentsOf name found (Dialogue trace only) =
     × HasValues found (codes "only") (texts_of only.items)
 AreArgumentsOf name found (Pqf text search) =
     (name ≡ codes "pqf") × (now_of text ≡ first_value found (codes "TEXT")) × HasSearch found search
-AreArgumentsOf name found (Catalogues path) = (name ≡ codes "catalogues") × HasValue found (codes "FILE") path.now
+AreArgumentsOf name found (Catalogues path) =
+    (name ≡ codes "catalogues") × HasValue found (codes "FILE") path.now × HasFlag found (codes "toml") false
+    × HasFlag found (codes "world") false
+AreArgumentsOf name found (WorldOf catalogues search) =
+    (name ≡ codes "catalogues") × HasValue found (codes "FILE") catalogues.now × HasFlag found (codes "toml") false
+    × HasFlag found (codes "world") true × HasSearch found search
+AreArgumentsOf name found (CataloguesOf world) =
+    (name ≡ codes "catalogues") × HasValue found (codes "FILE") world.now × HasFlag found (codes "toml") true
 AreArgumentsOf name found (Join first others saved quiet view) =
     (name ≡ codes "join") × HasValue found (codes "A") first.now
     × HasValues found (codes "B") (texts_of others.items) × (now_of saved ≡ first_value found (codes "save"))

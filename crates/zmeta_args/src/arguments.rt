@@ -91,6 +91,15 @@ pub enum Arguments<'a> {
     Catalogues {
         path: &'a str,
     },
+    /// Print the world file of what asking the catalogues of a file asks.
+    WorldOf {
+        catalogues: &'a str,
+        search: SearchOptions<'a>,
+    },
+    /// Print the file of catalogues of a world file whose questions go to hosts.
+    CataloguesOf {
+        world: &'a str,
+    },
     /// Print the list of all facts of saved files: the first, and the others. Save the facts if `saved` is a path; with
     /// `quiet`, that alone is done.
     Join {
@@ -263,6 +272,7 @@ fn arguments_of<'a>(
         "loop" => loops_of(alloc, found),
         "show" => shows_of(alloc, found),
         "pqf" => queries_of(alloc, found),
+        "catalogues" => catalogues_of(alloc, found),
         _ => Ok(single_of(name, found)),
     }
 }
@@ -351,6 +361,30 @@ fn queries_of<'a>(
     Ok(Some(Arguments::Pqf { text, search }))
 }
 
+/// Returns `catalogues` with its file, and what it is printed as.
+fn catalogues_of<'a>(
+    alloc: Global,
+    found: &ArgMatches<'a>,
+) -> Result<Option<Arguments<'a>>, AllocError>
+    ensures asks { IfOk result (λ arguments. IfSome arguments (AreArgumentsOf (codes "catalogues")
+        (found_of found.now))) }
+{
+    let Some(path) = found.get_str("FILE") else {
+        return Ok(None);
+    };
+    if has_flag(found, "toml") {
+        return Ok(Some(Arguments::CataloguesOf { world: path }));
+    }
+    if !has_flag(found, "world") {
+        return Ok(Some(Arguments::Catalogues { path }));
+    }
+    let search = search_of(alloc, found)?;
+    Ok(Some(Arguments::WorldOf {
+        catalogues: path,
+        search,
+    }))
+}
+
 /// Returns `run` with its world file.
 fn runs_of<'a>(alloc: Global, found: &ArgMatches<'a>) -> Result<Option<Arguments<'a>>, AllocError>
     ensures asks { IfOk result (λ arguments. IfSome arguments (AreArgumentsOf (codes "run") (found_of found.now))) }
@@ -388,9 +422,6 @@ fn single_of<'a>(name: &str, found: &ArgMatches<'a>) -> Option<Arguments<'a>>
     ensures asks { IfSome result (AreArgumentsOf name.now (found_of found.now)) }
 {
     match name {
-        "catalogues" => Some(Arguments::Catalogues {
-            path: found.get_str("FILE")?,
-        }),
         "new" => Some(Arguments::New {
             earlier: found.get_str("OLD")?,
             later: found.get_str("NEW")?,

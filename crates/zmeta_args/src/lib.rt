@@ -7,6 +7,7 @@ mod forms;
 mod found;
 mod offline_forms;
 mod options;
+mod world_options;
 
 pub use arguments::{
     Arguments, CommandLine, LimitOptions, SearchOptions, View, odd_arguments, parse,

@@ -2,8 +2,13 @@
 
 use crate::forms::{Argument, Form, SAVED};
 use crate::options::{
-    ANY, AUTHOR, CONFLICTS, EXPLAIN, FIELDS, HEADING, HEX, HTML, ISBN, ISSN, JSON, NEW_SINCE,
-    ONLY_OF, QUIET, SAVE, SHOWN_ONLY, SHOWN_TRACE, SUBJECT, SYNTAX, TITLE, TITLES, YEAR,
+    ANY, AS_TOML, AS_WORLD, AUTHOR, CONFLICTS, EXPLAIN, FIELDS, HEADING, HEX, HTML, ISBN, ISSN,
+    JSON, NEW_SINCE, ONLY_OF, QUIET, SAVE, SHOWN_ONLY, SHOWN_TRACE, SUBJECT, SYNTAX, TITLE, TITLES,
+    YEAR,
+};
+use crate::world_options::{
+    WORLD_ANY, WORLD_AUTHOR, WORLD_ISBN, WORLD_ISSN, WORLD_QUERY, WORLD_RECORDS, WORLD_SUBJECT,
+    WORLD_SYNTAX, WORLD_TITLE, WORLD_YEAR,
 };
 
 /// The form of `join`.
@@ -129,6 +134,13 @@ databases, and what else is to be said of it. Prints a line for each catalogue.
 Of a file with mistakes each gets a line on standard error, with the number of
 its line and what to write, and nothing is printed: status 3.
 
+With --world it prints the world file of what 'zmeta ask FILE' asks with the same
+--title and its like, --query, --records and --syntax. Several databases of a
+catalogue, an element set name or a line feed cannot stand there: status 3. So
+that 'zmeta ask' waits as FILE says, give it --connect and --patience. With --toml
+FILE is a world file, whose questions go to hosts, and is printed as a file of
+catalogues.
+
 Example, a file with the lines
   [loc]
   address = \"lx2.loc.gov\"
@@ -146,7 +158,21 @@ as
         is_needed: true,
         instead: &[],
     }],
-    may: &[EXPLAIN],
+    may: &[
+        AS_WORLD,
+        AS_TOML,
+        WORLD_TITLE,
+        WORLD_AUTHOR,
+        WORLD_SUBJECT,
+        WORLD_ISBN,
+        WORLD_ISSN,
+        WORLD_YEAR,
+        WORLD_ANY,
+        WORLD_QUERY,
+        WORLD_RECORDS,
+        WORLD_SYNTAX,
+        EXPLAIN,
+    ],
 };
 
 /// The form of `show`.

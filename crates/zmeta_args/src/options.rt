@@ -11,20 +11,20 @@ const DAY: i64 = 86_400;
 /// An option of a command.
 #[derive(Clone, Copy)]
 pub(crate) struct CommandOption {
-    id: &'static str,
+    pub(crate) id: &'static str,
     /// Its short form, if it has one.
-    short: Option<char>,
-    help: &'static str,
+    pub(crate) short: Option<char>,
+    pub(crate) help: &'static str,
     /// The name of its value in the help, if it has a value.
-    value: Option<&'static str>,
+    pub(crate) value: Option<&'static str>,
     /// Whether it may be given more than once.
-    is_many: bool,
+    pub(crate) is_many: bool,
     /// The most seconds that it takes, if its value is a number of seconds.
-    most_seconds: Option<i64>,
+    pub(crate) most_seconds: Option<i64>,
     /// The options that may not be given together with it.
-    excludes: &'static [&'static str],
+    pub(crate) excludes: &'static [&'static str],
     /// The options that must be given together with it.
-    needs: &'static [&'static str],
+    pub(crate) needs: &'static [&'static str],
 }
 
 pub(crate) const HEX: CommandOption = CommandOption {
@@ -394,6 +394,28 @@ pub(crate) const CONFLICTS: CommandOption = CommandOption {
     id: "conflicts",
     short: None,
     help: "Writes all records of a position for which several are known",
+    value: None,
+    is_many: false,
+    most_seconds: None,
+    excludes: &[],
+    needs: &[],
+};
+
+pub(crate) const AS_WORLD: CommandOption = CommandOption {
+    id: "world",
+    short: None,
+    help: "Prints the world file of what asking these catalogues asks, with --query, or --title and its like",
+    value: None,
+    is_many: false,
+    most_seconds: None,
+    excludes: &["toml"],
+    needs: &[],
+};
+
+pub(crate) const AS_TOML: CommandOption = CommandOption {
+    id: "toml",
+    short: None,
+    help: "Prints a world file as a file of catalogues",
     value: None,
     is_many: false,
     most_seconds: None,

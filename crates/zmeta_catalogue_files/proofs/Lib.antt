@@ -3,3 +3,4 @@ mod Reported
 mod Faults
 mod Listed
 mod Files
+mod Converted

@@ -1,11 +1,10 @@
 -- What was told of a file of catalogues.
 use Rattle.std.proofs.Common.{◌≡◌, refl, sym, subst, ◌∙◌, inl, inr, ℕ, List, [], ◌++◌}
-use Rattle.zmeta_catalogues.specs.declared.search.AskError.{AskError}
 use Rattle.zmeta_devices.specs.Devices.{Device, AfterTell, AfterTellLines}
 use Rattle.zmeta_devices.specs.declared.fault.Fault.TheVariants.{Memory}
 use Rattle.zmeta_devices.specs.declared.fault.Status.{Status}
 use Rattle.zmeta_devices.specs.declared.fault.Status.TheVariants as statuses
-use Rattle.zmeta_catalogue_files.specs.Refusals.{file_line, ask_text, HasErrorLine, AfterLine}
+use Rattle.zmeta_catalogue_files.specs.Refusals.{file_line, HasErrorLine, AfterLine}
 
 -- the line of an error
 pub error_told : (path start line written : List ℕ) (old new : Device) (status : Status) → start ≡ []
@@ -19,14 +18,13 @@ error_told path start line written old new status none is of told refused =
       refused = refused;
     })
 
--- the line that says why a search cannot be put
-pub asking_told : (path start line written : List ℕ) (e : AskError) (old new : Device) (status : Status) → start ≡ []
-    → line ≡ start ++ file_line path (ask_text e) → written ≡ line → AfterTellLines old new written
-    → status ≡ statuses.Refused → AfterLine path (λ text. text ≡ ask_text e) old new status
-asking_told path start line written e old new status none is of told refused =
-    let whole : line ≡ [] ++ file_line path (ask_text e) =
-    subst (λ s. line ≡ s ++ file_line path (ask_text e)) none is in inl (record {
-      text = ask_text e;
+-- the line with a text
+pub text_told : (path start line written text : List ℕ) (old new : Device) (status : Status) → start ≡ []
+    → line ≡ start ++ file_line path text → written ≡ line → AfterTellLines old new written → status ≡ statuses.Refused
+    → AfterLine path (λ told. told ≡ text) old new status
+text_told path start line written text old new status none is of told refused =
+    let whole : line ≡ [] ++ file_line path text = subst (λ s. line ≡ s ++ file_line path text) none is in inl (record {
+      text = text;
       says = refl;
       told = subst (AfterTellLines old new) (of ∙ whole) told;
       refused = refused;

@@ -4,3 +4,4 @@ pub mod Unions
 pub mod Refusals
 pub mod Lines
 pub mod Listing
+pub mod Conversions

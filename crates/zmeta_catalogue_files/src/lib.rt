@@ -1,6 +1,7 @@
 //! Files of catalogues for the commands: their catalogues as a world that a search asks, and the command `catalogues`.
 #![tactic(auto)]
 
+pub mod conversions;
 mod lines;
 pub mod listing;
 mod options;
@@ -8,6 +9,7 @@ mod paths;
 pub mod refusal;
 pub mod unions;
 
+pub use conversions::{catalogues_of_world, world_of_catalogues};
 pub use listing::catalogues_named;
 pub use paths::is_catalogue_file;
 pub use refusal::UnionFault;

@@ -75,7 +75,10 @@ fn list_octets<'a, 'o: 'a, W: Write, E: Write>(
 }
 
 /// Prints a text.
-fn put_text<'o, W: Write>(output: &mut Output<'o, W>, text: &[u8]) -> Result<Status, Fault<'o>>
+pub(crate) fn put_text<'o, W: Write>(
+    output: &mut Output<'o, W>,
+    text: &[u8],
+) -> Result<Status, Fault<'o>>
     ensures { PutTextResult text.now (output_device W.contents output.old) (output_device W.contents output.new)
         result }
 {

@@ -71,14 +71,14 @@ fn option_of(access: Access) -> &'static str
 }
 
 /// Appends a text.
-fn put(text: &str, out: &mut Vec<u8>) -> Result<(), AllocError>
+pub(crate) fn put(text: &str, out: &mut Vec<u8>) -> Result<(), AllocError>
     ensures { OnOk result (out.new.items ≡ out.old.items ++ text.now) }
 {
     out.extend_from_slice(text.as_bytes())
 }
 
 /// Appends a catalogue by its name.
-fn put_catalogue(alloc: Global, name: &[u8], out: &mut Vec<u8>) -> Result<(), AllocError>
+pub(crate) fn put_catalogue(alloc: Global, name: &[u8], out: &mut Vec<u8>) -> Result<(), AllocError>
     ensures { OnOk result (out.new.items ≡ out.old.items ++ catalogue_text name.now) }
 {
     put("catalogue ", out)?;
@@ -190,7 +190,7 @@ fn report_error<E: Write>(
 }
 
 /// Writes why a search cannot be put to the catalogues of the file at a path, as one line on `errors`.
-#[tactic(auto, using(crate::proofs::Reported::asking_told, crate::proofs::Reported::memory_told))]
+#[tactic(auto, using(crate::proofs::Reported::text_told, crate::proofs::Reported::memory_told))]
 fn report_asking<E: Write>(
     alloc: Global,
     path: &str,

@@ -4,6 +4,8 @@
 #[cfg(test)]
 mod asked;
 #[cfg(test)]
+mod conversions;
+#[cfg(test)]
 mod files;
 #[cfg(test)]
 mod large;

@@ -7,11 +7,12 @@ use Rattle.clap.specs.declared.error.kind.ErrorKind.TheVariants as kinds
 use Rattle.zmeta_args.specs.declared.arguments.Arguments.{Arguments}
 use Rattle.zmeta_args.specs.declared.arguments.View.{View}
 use Rattle.zmeta_args.specs.declared.arguments.CommandLine.{CommandLine}
-use Rattle.zmeta_args.specs.declared.arguments.Arguments.TheVariants.{Show, Dialogue, Pqf, Join, New, Records, Run, Ask, Replay, Loop, Serve, Catalogues}
+use Rattle.zmeta_args.specs.declared.arguments.Arguments.TheVariants.{Show, Dialogue, Pqf, Join, New, Records, Run, Ask, Replay, Loop, Serve, Catalogues, WorldOf, CataloguesOf}
 use Rattle.zmeta_args.specs.Texts.{texts_of, now_of}
 use Rattle.zmeta_args.specs.Arguments.{IsParsed}
 use Rattle.zoom.specs.Limits.{Limits}
 use Rattle.zmeta_commands.specs.Choice.{AreLimits, manner_of}
+use Rattle.zmeta_catalogue_files.specs.Conversions.{AfterWorldOf, AfterCataloguesOf}
 use Rattle.zmeta_catalogue_files.specs.Listing.{AfterCatalogues}
 use Rattle.zmeta_offline.specs.Join.{AfterJoin, AfterJoinSaved}
 use Rattle.zmeta_offline.specs.Merged.{AfterMerge}
@@ -93,6 +94,12 @@ AfterCall Stream serves octets logged relogged (Serve address name world count) 
 AfterCall Stream serves octets logged relogged (Catalogues path) old new before after status =
     (new ≡ old) × (after.input ≡ before.input)
     × AfterCatalogues path.now (octets path.now) (written before) (written after) status
+AfterCall Stream serves octets logged relogged (WorldOf catalogues search) old new before after status =
+    (new ≡ old) × (after.input ≡ before.input)
+    × AfterWorldOf catalogues.now (octets catalogues.now) search (written before) (written after) status
+AfterCall Stream serves octets logged relogged (CataloguesOf world) old new before after status =
+    (new ≡ old) × (after.input ≡ before.input)
+    × AfterCataloguesOf world.now (octets world.now) (written before) (written after) status
 
 -- help was asked for
 abbrev pub IsHelp : ErrorKind → Type 0

@@ -56,9 +56,9 @@ pub(crate) struct Answered<T> {
 ///
 /// The file is a world file. If `search` has a query, wanted positions, an element set or a syntax, it replaces that of
 /// every question. Or the path is that of a file of catalogues (`zmeta_catalogue_files::is_catalogue_file`). Then
-/// `search` is put to each catalogue. `given` are the options of which `choice` has the limits; a waiting time that they
-/// do not give is the catalogue's own, if its file has one. The records of a catalogue whose file gives a charset are
-/// read in it, in all views but the list.
+/// `search` is put to each catalogue. `given` are the options of which `choice` has the limits; a waiting time that
+/// they do not give is the catalogue's own, if its file has one. The records of a catalogue whose file gives a charset
+/// are read in it, in all views but the list.
 ///
 /// Writes a line on `errors` for each connection that failed. If `paths` has a path `saved`, then makes one file
 /// there, the saved file of the facts, and returns `Done` or `Failed` only if it holds them all. Makes no other file.

@@ -34,9 +34,9 @@ struct UnionRun {
     charsets: Vec<Option<Charset>>,
 }
 
-/// Puts the search of the options to each catalogue of a file, and prints what is known, as `ask_named` does for a world
-/// file. A catalogue is waited for as an option says; if none does, as its file says; else as `choice` does. The records
-/// of a catalogue are read in the charset that its file gives, if it gives one.
+/// Puts the search of the options to each catalogue of a file, and prints what is known, as `ask_named` does for a
+/// world file. A catalogue is waited for as an option says; if none does, as its file says; else as `choice` does. The
+/// records of a catalogue are read in the charset that its file gives, if it gives one.
 ///
 /// If `trace` is a path, reads nothing, writes the reason on `errors` and returns `Refused`: a trace holds a world
 /// file. `Memory` if no memory is found for that.

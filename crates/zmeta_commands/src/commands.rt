@@ -20,7 +20,7 @@ use std::io::{ErrorKind, Read, Write};
 use std::net::Net;
 use std::time::Clock;
 use zmeta_args::{Arguments, CommandLine, odd_arguments, parse};
-use zmeta_catalogue_files::catalogues_named;
+use zmeta_catalogue_files::{catalogues_named, catalogues_of_world, world_of_catalogues};
 use zmeta_devices::fault::{Fault, Status};
 use zmeta_devices::files::Folder;
 use zmeta_devices::input::Input;
@@ -267,5 +267,11 @@ fn call<'a, S: Folder + Doors + Net + Clock, R: Read, W: Write, E: Write, P: Wri
             serve_named(alloc, system, service, errors)
         }
         Arguments::Catalogues { path } => catalogues_named(alloc, system, path, output, errors),
+        Arguments::WorldOf { catalogues, search } => {
+            world_of_catalogues(alloc, system, catalogues, &search, output, errors)
+        }
+        Arguments::CataloguesOf { world } => {
+            catalogues_of_world(alloc, system, world, output, errors)
+        }
     }
 }

@@ -1,0 +1,6 @@
+mod Lexing
+mod Lines
+mod ReadAgain
+mod Reasons
+mod Tables
+mod Wanted

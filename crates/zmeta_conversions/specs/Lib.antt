@@ -1,0 +1,3 @@
+pub mod Worlds
+pub mod Catalogues
+pub mod Laws
