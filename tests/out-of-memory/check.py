@@ -34,6 +34,11 @@ RUNS = [
     (["catalogues", "tests/program/files/curly.toml"], None),
     (["catalogues", "tests/program/files/mistaken.toml"], None),
     (["ask", "--title", " ", "tests/program/files/abbey.toml"], None),
+    # such a file as a world file, and a world file as such a file, and what they refuse
+    (["catalogues", "--world", "--title", "a \"b", "tests/program/files/said.toml"], None),
+    (["catalogues", "--world", "--title", "a", "tests/program/files/feed.toml"], None),
+    (["catalogues", "--toml", "tests/program/files/keyed.world"], None),
+    (["catalogues", "--toml", "tests/program/files/octet.world"], None),
     (["run", "--save", SAVED, "examples/libraries.world"], None),
     # answers that are shorter than what was asked for, and the same with moves
     (["run", "tests/out-of-memory/short.world"], None),

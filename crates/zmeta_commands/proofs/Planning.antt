@@ -112,3 +112,8 @@ of_asking path (Wanted text) h = tt
 of_asking path (Syntax text) h = tt
 of_asking path Memory h = tt
 of_asking path f h = absurd h
+
+-- why a file has no plan, and why its hosts were not asked
+pub ruleset plan_faults = (unread, refused, unplanned, of_file, of_texts, of_plan)
+
+pub ruleset ask_faults = (unasked_file, of_asking)

@@ -238,7 +238,8 @@ module _ (l : Laws) (choice : ChoiceTexts) (search : SearchTexts) (view : View) 
     (entries : List TraceEntry) (trace : Trace) (p : Playback) where
   -- the same plan, and the same head
   core : (e : NetworkRun) (by : IsTraceBy choice search file e r entries) → IsNetworkFile search file e
-      → IsAskedOf choice [] view [] e r → AreNoticed choice.limits (length e.questions) r entries → AreShort choice.limits
+      → IsAskedOf choice [] view [] e r → AreNoticed choice.limits (length e.questions) r entries
+      → AreShort choice.limits
       → IsReplayedBy view trace (head_by choice search file by.start) e p → trace.entries.items ≡ entries
       → trace.is_cut ≡ false → IsSameFinished r p.finished × (p.is_cut ≡ false)
   core e by from of told short again items whole =

@@ -179,3 +179,8 @@ pub of_file : (path : List ℕ) (f : Fault) → IsOfFile path f → IsOfReplay p
 of_file path (Read failed) h = h
 of_file path Memory h = tt
 of_file path f h = absurd h
+
+-- why the trace of a file is not replayed; what the plan of a head is, or why it has none
+pub ruleset file_faults = (untraced, unread, of_trace, of_traced, of_file)
+
+pub ruleset head_plans = (too_large, no_search, no_plan, a_plan)

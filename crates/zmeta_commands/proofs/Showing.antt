@@ -186,3 +186,8 @@ pub put_of : (path text : List ℕ) (old new : Device) (result : Result (Unit {0
 put_of path text old new (Ok done) put = tt
 put_of path text old new (Err (Write failed)) put = put.0
 put_of path text old new (Err f) put = absurd put
+
+-- why the trace of a file has no text; what is shown of the file
+pub ruleset text_faults = (untraced, unread, of_file, of_traced, of_unshown)
+
+pub ruleset file_shown = (none_shown, of_text, put_of)

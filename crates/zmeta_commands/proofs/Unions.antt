@@ -209,3 +209,8 @@ pub of_names : (path : List ℕ) (only names addresses : List (List ℕ)) (f : F
 of_names path only names addresses (NoQuestion unknown) h = tt
 of_names path only names addresses Memory h = tt
 of_names path only names addresses f h = absurd h
+
+-- why the catalogues of a file have no plan, and why they were not asked
+pub ruleset plan_faults = (refused, unplanned, no_memory, of_union, of_plan)
+
+pub ruleset ask_faults = (unasked, unchosen, no_memory_asked, of_planning, of_names)

@@ -1,10 +1,9 @@
 //! The command `ask`: puts the questions of a world file to its hosts, or a search to the catalogues of a file.
 
-ghost use Rattle.std.specs.Prelude.{◌≡◌, ◌<◌, ◌^◌, [], length, Ok, Err, IfOk, IfErr, IfSome, MatchResult};
+ghost use Rattle.std.specs.Prelude.{◌≡◌, [], length, Ok, Err, IfOk, IfErr, IfSome, MatchResult};
 ghost use Rattle.std.specs.Option.{option_map};
 ghost use Rattle.zmeta_world.specs.Search.{search_texts};
-ghost use Rattle.zoom.specs.Askable.{AreAskable, AreFit};
-ghost use Rattle.zoom.specs.Asking.{IsAsked, IsTracedAsk};
+ghost use Rattle.zoom.specs.Asking.{IsTracedAsk};
 ghost use Rattle.zmeta_devices.specs.Devices.{outputs};
 ghost use Rattle.zmeta_commands.specs.Finished.{HasNames, IsOfSearchedWorld};
 ghost use Rattle.zmeta_args.specs.Texts.{texts_of};
@@ -16,7 +15,7 @@ ghost use Rattle.zmeta_commands.specs.Traced.{PlannedResult, IsTracedNetwork, Is
 
 use crate::catalogue_files::ask_catalogues;
 use crate::choice::{Choice, addresses_of};
-use crate::finished::{Finished, Paths, conclude};
+use crate::finished::{Finished, ListTerms, Paths, conclude};
 use crate::progress::Progress;
 use crate::traced::{begin_trace, end_trace};
 use crate::worlds::{octets_at, plan, searched_by};
@@ -25,7 +24,6 @@ use std::alloc::{AllocError, Global};
 use std::io::Write;
 use std::net::Net;
 use std::time::Clock;
-use zmarc::Charset;
 use zmeta_args::{LimitOptions, SearchOptions, View};
 use zmeta_catalogue_files::is_catalogue_file;
 use zmeta_devices::fault::{Fault, Status};
@@ -34,7 +32,33 @@ use zmeta_devices::output::Output;
 use zmeta_searches::copy_search;
 use zmeta_world::network::NetworkRun;
 use zmeta_world::search::Search;
-use zoom::{Asked, HostWaits, Limits, Manner, MetaSettings, Question, Tracer, ask};
+use zoom::{Asked, Tracer, ask};
+
+/// What the arguments of `ask` say.
+#[derive(Clone, Copy)]
+pub struct AskOptions<'a, 'w> {
+    /// The paths of the file, and of the saved file.
+    pub paths: Paths<'a>,
+    /// The path of the trace, if one is to be written.
+    pub trace: Option<&'a str>,
+    /// Which questions are asked, and how.
+    pub choice: Choice<'a, 'w>,
+    /// The limits as they were given, of which `choice` has those that hold.
+    pub given: &'w LimitOptions,
+    /// What is put to every question or catalogue.
+    pub search: &'w SearchOptions<'a>,
+    /// What is printed.
+    pub view: View<'a>,
+}
+
+/// How the hosts of a plan are asked, and what the list of them goes by.
+#[derive(Clone, Copy)]
+pub(crate) struct HostTerms<'a, 'w> {
+    /// Which of them are asked, and how. If hosts have waiting times of their own, those hold for them.
+    pub choice: Choice<'a, 'w>,
+    /// What the list goes by.
+    pub list: ListTerms<'a, 'w>,
+}
 
 /// The octets of a world file, and the network run of its world.
 struct Planned {
@@ -50,15 +74,14 @@ pub(crate) struct Answered<T> {
     pub trace: Option<Tracer<T>>,
 }
 
-/// Puts each chosen question of the file at a path to its host over TCP, and prints what is known: as the list, the
-/// view for readers or lines of JSON, as `view` says. The hosts are asked at once or one after the other, as `choice`
-/// says.
+/// Puts each chosen question of the file at the path `paths.world` to its host over TCP, and prints what is known: as
+/// the list, the view for readers or lines of JSON, as `view` says. The hosts are asked at once or one after the other,
+/// as `choice` says.
 ///
 /// The file is a world file. If `search` has a query, wanted positions, an element set or a syntax, it replaces that of
 /// every question. Or the path is that of a file of catalogues (`zmeta_catalogue_files::is_catalogue_file`). Then
-/// `search` is put to each catalogue. `given` are the options of which `choice` has the limits; a waiting time that
-/// they do not give is the catalogue's own, if its file has one. The records of a catalogue whose file gives a charset
-/// are read in it, in all views but the list.
+/// `search` is put to each catalogue. A waiting time that `given` has not is the catalogue's own, if its file has one.
+/// The records of a catalogue whose file gives a charset are read in it, in all views but the list.
 ///
 /// Writes a line on `errors` for each connection that failed. If `paths` has a path `saved`, then makes one file
 /// there, the saved file of the facts, and returns `Done` or `Failed` only if it holds them all. Makes no other file.
@@ -75,110 +98,79 @@ pub(crate) struct Answered<T> {
 pub fn ask_named<'a, 'o: 'a, S: Folder + Net + Clock, W: Write, E: Write, P: Write + Drop>(
     alloc: Global,
     system: &mut S,
-    paths: Paths<'a>,
-    trace: Option<&'a str>,
-    choice: Choice<'a, '_>,
-    given: &LimitOptions,
-    search: &SearchOptions<'a>,
-    view: View<'_>,
+    options: AskOptions<'a, '_>,
     screen: Option<P>,
     output: &mut Output<'o, W>,
     errors: &mut Output<'_, E>,
 ) -> Status
-    ensures { AfterNamedAsk (choice_texts choice.entry) given.now search.now view.entry
-        (option_map (λ path. path.now) trace.entry) (S.logged system.old) (S.logged system.new) paths.entry.world.now
-        (option_map (λ path. path.now) paths.entry.saved) (S.octets system.old paths.entry.world.now)
+    ensures { AfterNamedAsk (choice_texts options.entry.choice) options.entry.given.now options.entry.search.now
+        options.entry.view (option_map (λ path. path.now) options.entry.trace) (S.logged system.old)
+        (S.logged system.new) options.entry.paths.world.now
+        (option_map (λ path. path.now) options.entry.paths.saved) (S.octets system.old options.entry.paths.world.now)
         (S.made system.old) (S.made system.new) (outputs W.contents E.contents output.old errors.old)
         (outputs W.contents E.contents output.new errors.new) result }
 {
-    if is_catalogue_file(paths.world) {
-        return ask_catalogues(
-            alloc, system, paths, trace, choice, given, search, view, screen, output, errors,
-        );
+    if is_catalogue_file(options.paths.world) {
+        return ask_catalogues(alloc, system, options, screen, output, errors);
     }
-    ask_world(
-        alloc, system, paths, trace, choice, search, view, screen, output, errors,
-    )
+    ask_world(alloc, system, options, screen, output, errors)
 }
 
 /// The same for a world file.
 fn ask_world<'a, 'o: 'a, S: Folder + Net + Clock, W: Write, E: Write, P: Write + Drop>(
     alloc: Global,
     system: &mut S,
-    paths: Paths<'a>,
-    trace: Option<&'a str>,
-    choice: Choice<'a, '_>,
-    search: &SearchOptions<'a>,
-    view: View<'_>,
+    options: AskOptions<'a, '_>,
     screen: Option<P>,
     output: &mut Output<'o, W>,
     errors: &mut Output<'_, E>,
 ) -> Status
-    ensures { AfterTracedAsk (choice_texts choice.entry) (search_of search.now) view.entry
-        (option_map (λ path. path.now) trace.entry) (S.logged system.old) (S.logged system.new) paths.entry.world.now
-        (option_map (λ path. path.now) paths.entry.saved) (S.octets system.old paths.entry.world.now)
+    ensures { AfterTracedAsk (choice_texts options.entry.choice) (search_of options.entry.search.now)
+        options.entry.view (option_map (λ path. path.now) options.entry.trace) (S.logged system.old)
+        (S.logged system.new) options.entry.paths.world.now
+        (option_map (λ path. path.now) options.entry.paths.saved) (S.octets system.old options.entry.paths.world.now)
         (S.made system.old) (S.made system.new) (outputs W.contents E.contents output.old errors.old)
         (outputs W.contents E.contents output.new errors.new) result }
 {
-    match ask_file(
-        alloc,
-        system,
-        paths.world,
-        trace,
-        choice,
-        search,
-        view,
-        screen,
-    ) {
+    let saved = options.paths.saved;
+    match ask_file(alloc, system, options, screen) {
         Ok(answered) => {
             let Answered {
                 finished,
                 trace: left,
             } = answered;
-            let status = conclude(alloc, system, Ok(finished), paths.saved, output, errors);
-            end_trace(system, trace, left, status, errors)
+            let status = conclude(alloc, system, Ok(finished), saved, output, errors);
+            end_trace(system, options.trace, left, status, errors)
         }
-        Err(fault) => conclude(alloc, system, Err(fault), paths.saved, output, errors),
+        Err(fault) => conclude(alloc, system, Err(fault), saved, output, errors),
     }
 }
 
 /// Asks the hosts of the file at a path.
-#[tactic(auto, using(crate::proofs::Planning::unasked_file, crate::proofs::Planning::of_asking, crate::proofs::Tracing::traced_file))]
+#[tactic(auto, using(crate::proofs::Planning::ask_faults, crate::proofs::Tracing::traced_file))]
 fn ask_file<'a, S: Folder + Net + Clock, P: Write + Drop>(
     alloc: Global,
     system: &S,
-    path: &'a str,
-    trace: Option<&'a str>,
-    choice: Choice<'a, '_>,
-    search: &SearchOptions<'a>,
-    view: View<'_>,
+    options: AskOptions<'a, '_>,
     screen: Option<P>,
 ) -> Result<Answered<S::Log>, Fault<'a>>
-    ensures asked { IfSome (S.octets system.now path.entry.now)
-        (λ octets. AskFileResult (choice_texts choice.entry) (search_of search.now) view.entry octets
-        (finished_of result)) }
+    ensures asked { IfSome (S.octets system.now options.entry.paths.world.now)
+        (λ octets. AskFileResult (choice_texts options.entry.choice) (search_of options.entry.search.now)
+        options.entry.view octets (finished_of result)) }
     ensures traced { IfOk result (λ answered. IsTracedFile S.Log.contents (S.logged system.now)
-        (choice_texts choice.entry) (search_of search.now) (S.octets system.now path.entry.now) answered.finished
-        answered.trace) }
-    ensures sound { IfOk result (λ answered. HasNames answered.finished) }
-    ensures path { IfErr result (IsOfAsking path.entry.now) }
+        (choice_texts options.entry.choice) (search_of options.entry.search.now)
+        (S.octets system.now options.entry.paths.world.now) answered.finished answered.trace) }
+    ensures names { IfOk result (λ answered. HasNames answered.finished) }
+    ensures fault { IfErr result (IsOfAsking options.entry.paths.world.now) }
 {
+    let search = options.search;
     let copy = copy_search(alloc, search)?;
-    let planned = read_network(alloc, system, path, search, &copy.texts())?;
-    ask_network(
-        alloc,
-        system,
-        planned,
-        trace,
-        choice,
-        &copy.texts(),
-        view,
-        screen,
-    )
+    let planned = read_network(alloc, system, options.paths.world, search, &copy.texts())?;
+    ask_network(alloc, system, planned, options, &copy.texts(), screen)
 }
 
 /// Reads the file at a path, puts the search to its questions, and plans a network run of its world.
-#[tactic(auto, using(crate::proofs::Planning::unread, crate::proofs::Planning::refused, crate::proofs::Planning::unplanned, crate::proofs::Planning::of_file, crate::proofs::Planning::of_texts, crate::proofs::Planning::of_plan))]
+#[tactic(auto, using(crate::proofs::Planning::plan_faults))]
 fn read_network<'a, F: Folder>(
     alloc: Global,
     files: &F,
@@ -189,7 +181,7 @@ fn read_network<'a, F: Folder>(
     requires { search_texts texts.now ≡ search_of search.now }
     ensures network { PlannedResult (search_of search.now) (F.octets files.now path.entry.now) result }
     ensures fit { IfOk result (λ planned. CanBeAsked planned.network) }
-    ensures path { IfErr result (IsOfSearchedWorld path.entry.now) }
+    ensures fault { IfErr result (IsOfSearchedWorld path.entry.now) }
 {
     let world = octets_at(alloc, files, path)?;
     let searched = searched_by(alloc, world.as_slice(), search, texts)?;
@@ -202,33 +194,28 @@ fn ask_network<'a, S: Folder + Net + Clock, P: Write + Drop>(
     alloc: Global,
     system: &S,
     planned: Planned,
-    trace: Option<&str>,
-    choice: Choice<'a, '_>,
+    options: AskOptions<'a, '_>,
     texts: &Search<'_>,
-    view: View<'_>,
     screen: Option<P>,
 ) -> Result<Answered<S::Log>, Fault<'a>>
     requires { CanBeAsked planned.network }
-    ensures asked { AskNetworkResult (choice_texts choice.entry) [] view.entry planned.network (finished_of result) }
+    ensures asked { AskNetworkResult (choice_texts options.entry.choice) [] options.entry.view planned.network
+        (finished_of result) }
     ensures traced { IfOk result (λ answered. IsTracedNetwork S.Log.contents (S.logged system.now)
-        (choice_texts choice.entry) (search_texts texts.now) planned answered.finished answered.trace) }
-    ensures sound { IfOk result (λ answered. HasNames answered.finished) }
+        (choice_texts options.entry.choice) (search_texts texts.now) planned answered.finished answered.trace) }
+    ensures names { IfOk result (λ answered. HasNames answered.finished) }
 {
     let Planned { world, network } = planned;
+    let choice = options.choice;
     let chosen = chosen_of(alloc, choice.only, &network)?;
-    let begun = begin_trace(alloc, system, trace, world, texts, choice.only)?;
-    let answered = ask_chosen(
-        alloc,
-        system,
-        network,
-        chosen,
-        &[],
-        begun,
-        choice,
-        view,
-        &[],
-        screen,
-    )?;
+    let begun = begin_trace(alloc, system, options.trace, world, texts, choice.only)?;
+    let list = ListTerms {
+        view: options.view,
+        waits: &[],
+        charsets: &[],
+    };
+    let terms = HostTerms { choice, list };
+    let answered = ask_chosen(alloc, system, network, chosen, terms, begun, screen)?;
     Ok(answered)
 }
 
@@ -252,28 +239,25 @@ pub(crate) fn chosen_of<'a>(
     )
 }
 
-/// Asks the hosts at the addresses of the chosen questions, and makes the list. `waits` are the waiting times that
-/// hosts have of their own. If it is not empty, no trace is left. `charsets` are the character sets that the records of
-/// hosts are read in, as far as they are known.
+/// Asks the hosts at the addresses of the chosen questions, and makes the list. Shows the progress meanwhile. If hosts
+/// have waiting times of their own, no trace is left.
 pub(crate) fn ask_chosen<S: Net + Clock, P: Write + Drop, T: Write + Drop>(
     alloc: Global,
     system: &S,
     network: NetworkRun,
     chosen: Vec<Option<Bytes>>,
-    waits: &[HostWaits],
+    terms: HostTerms<'_, '_>,
     trace: Option<Tracer<T>>,
-    choice: Choice<'_, '_>,
-    view: View<'_>,
-    charsets: &[Option<Charset>],
     screen: Option<P>,
 ) -> Result<Answered<T>, AllocError>
-    requires can { CanBeAsked network }
+    requires fit { CanBeAsked network }
     requires equal { length chosen.items ≡ length network.addresses }
-    ensures asked { IfOk result (λ answered. IsAskedAt (choice_texts choice.entry) waits.now chosen.items view.entry
-        charsets.now network answered.finished) }
+    ensures asked { IfOk result (λ answered. IsAskedAt (choice_texts terms.entry.choice) terms.entry.list.waits.now
+        chosen.items terms.entry.list.view terms.entry.list.charsets.now network answered.finished) }
     ensures traced { IfOk result (λ answered. IsTracedAsk T.contents network.questions network.settings
-        choice.entry.manner choice.entry.limits waits.now chosen.items trace answered.finished.meta answered.trace) }
-    ensures sound { IfOk result (λ answered. HasNames answered.finished) }
+        terms.entry.choice.manner terms.entry.choice.limits terms.entry.list.waits.now chosen.items trace
+        answered.finished.meta answered.trace) }
+    ensures names { IfOk result (λ answered. HasNames answered.finished) }
 {
     let NetworkRun {
         questions,
@@ -281,76 +265,31 @@ pub(crate) fn ask_chosen<S: Net + Clock, P: Write + Drop, T: Write + Drop>(
         addresses: _,
         names,
     } = network;
-    let progress = Progress::new(alloc, system, screen, names.as_slice(), chosen.as_slice());
-    let asked = ask_watched(
+    let limits = terms.choice.limits;
+    let mut progress = Progress::new(alloc, system, screen, names.as_slice(), chosen.as_slice());
+    let asked = ask(
         alloc,
         system,
         questions.into_vec(),
         settings,
         chosen.as_slice(),
-        choice.manner,
-        choice.limits,
-        waits,
-        progress,
+        terms.choice.manner,
+        limits,
+        terms.list.waits,
+        &mut progress,
         trace,
     )?;
+    progress.wipe();
+    drop(progress);
     let Asked {
         meta,
         notices,
         trace: left,
     } = asked;
-    let limits = choice.limits;
-    let finished = Finished::new(
-        alloc,
-        meta,
-        names,
-        chosen,
-        notices.as_slice(),
-        &limits,
-        waits,
-        view,
-        charsets,
-    )?;
+    let noticed = notices.as_slice();
+    let finished = Finished::new(alloc, meta, names, chosen, noticed, &limits, terms.list)?;
     Ok(Answered {
         finished,
         trace: left,
     })
-}
-
-/// Asks hosts, and shows the progress meanwhile.
-fn ask_watched<N: Net + Clock, C: Clock, P: Write + Drop, T: Write + Drop>(
-    alloc: Global,
-    net: &N,
-    questions: Vec<Question>,
-    settings: MetaSettings,
-    addresses: &[Option<Bytes>],
-    manner: Manner,
-    limits: Limits,
-    waits: &[HostWaits],
-    mut progress: Progress<'_, C, P>,
-    trace: Option<Tracer<T>>,
-) -> Result<Asked<T>, AllocError>
-    requires some { length questions.items < 2 ^ 32 }
-    requires askable { AreAskable questions.items }
-    requires fit { AreFit settings }
-    requires equal { length addresses.now ≡ length questions.items }
-    ensures asked { IfOk result
-        (λ asked. IsAsked questions.items settings manner limits waits.now addresses.now asked.meta) }
-    ensures traced { IfOk result (λ asked. IsTracedAsk T.contents questions.items settings manner limits waits.now
-        addresses.now trace asked.meta asked.trace) }
-{
-    let asked = ask(
-        alloc,
-        net,
-        questions,
-        settings,
-        addresses,
-        manner,
-        limits,
-        waits,
-        &mut progress,
-        trace,
-    )?;
-    progress.wipe();
-    Ok(asked)
 }

@@ -9,16 +9,16 @@ ghost use Rattle.zmeta_commands.specs.CatalogueFiles.{own_seconds, IsSpan, IsOwn
 ghost use Rattle.zmeta_commands.specs.Choice.{choice_texts};
 ghost use Rattle.zmeta_commands.specs.Finished.{HasNames};
 
-use crate::ask::{Answered, ask_chosen, chosen_of};
-use crate::choice::{Choice, seconds};
-use crate::finished::{Finished, Paths, conclude};
+use crate::ask::{Answered, AskOptions, HostTerms, ask_chosen, chosen_of};
+use crate::choice::seconds;
+use crate::finished::{Finished, ListTerms, Paths, conclude};
 use crate::worlds::plan;
 use std::alloc::{AllocError, Global};
 use std::io::Write;
 use std::net::Net;
 use std::time::{Clock, Duration};
 use zmarc::Charset;
-use zmeta_args::{LimitOptions, SearchOptions, View};
+use zmeta_args::{LimitOptions, SearchOptions};
 use zmeta_catalogue_files::{CatalogueWaits, Union, UnionFault, union_at};
 use zmeta_devices::fault::{Fault, Status};
 use zmeta_devices::files::Folder;
@@ -50,35 +50,23 @@ pub(crate) fn ask_catalogues<
 >(
     alloc: Global,
     system: &mut S,
-    paths: Paths<'a>,
-    trace: Option<&str>,
-    choice: Choice<'a, '_>,
-    given: &LimitOptions,
-    search: &SearchOptions<'a>,
-    view: View<'_>,
+    options: AskOptions<'a, '_>,
     screen: Option<P>,
     output: &mut Output<'o, W>,
     errors: &mut Output<'_, E>,
 ) -> Status
-    ensures { AfterUnionAsk (choice_texts choice.entry) given.now search.now view.entry
-        (option_map (λ path. path.now) trace.entry) (S.logged system.old) (S.logged system.new) paths.entry.world.now
-        (option_map (λ path. path.now) paths.entry.saved) (S.octets system.old paths.entry.world.now)
+    ensures { AfterUnionAsk (choice_texts options.entry.choice) options.entry.given.now options.entry.search.now
+        options.entry.view (option_map (λ path. path.now) options.entry.trace) (S.logged system.old)
+        (S.logged system.new) options.entry.paths.world.now
+        (option_map (λ path. path.now) options.entry.paths.saved) (S.octets system.old options.entry.paths.world.now)
         (S.made system.old) (S.made system.new) (outputs W.contents E.contents output.old errors.old)
         (outputs W.contents E.contents output.new errors.new) result }
 {
-    match trace {
+    let paths = options.paths;
+    match options.trace {
         Some(_) => refuse_trace(alloc, paths.world, errors),
         None => {
-            let asked = ask_union(
-                alloc,
-                system,
-                paths.world,
-                choice,
-                given,
-                search,
-                view,
-                screen,
-            );
+            let asked = ask_union(alloc, system, options, screen);
             conclude_union(alloc, system, asked, paths, output, errors)
         }
     }
@@ -133,7 +121,7 @@ fn own_waits(
 }
 
 /// Reads the file of catalogues at a path, puts the search to each, and plans a network run of them.
-#[tactic(auto, using(crate::proofs::Unions::refused, crate::proofs::Unions::unplanned, crate::proofs::Unions::no_memory, crate::proofs::Unions::of_union, crate::proofs::Unions::of_plan))]
+#[tactic(auto, using(crate::proofs::Unions::plan_faults))]
 fn plan_union<'a, F: Folder>(
     alloc: Global,
     files: &F,
@@ -144,7 +132,7 @@ fn plan_union<'a, F: Folder>(
     ensures planned { IfSome (F.octets files.now path.entry.now)
         (λ octets. PlanUnionResult given.now search.now octets result) }
     ensures fit { IfOk result (λ run. CanBeAsked run.network) }
-    ensures path { IfErr result (IsOfUnionPlan path.entry.now) }
+    ensures fault { IfErr result (IsOfUnionPlan path.entry.now) }
 {
     let union = union_at(alloc, files, path, search)?;
     let Union {
@@ -164,46 +152,42 @@ fn plan_union<'a, F: Folder>(
     })
 }
 
-/// Asks the chosen catalogues of the file at a path.
-#[tactic(auto, using(crate::proofs::Unions::unasked, crate::proofs::Unions::unchosen, crate::proofs::Unions::no_memory_asked, crate::proofs::Unions::of_planning, crate::proofs::Unions::of_names))]
+/// Asks the chosen catalogues of the file at the path `paths.world`.
+#[tactic(auto, using(crate::proofs::Unions::ask_faults))]
 fn ask_union<'a, S: Folder + Net + Clock, P: Write + Drop>(
     alloc: Global,
     system: &S,
-    path: &'a str,
-    choice: Choice<'a, '_>,
-    given: &LimitOptions,
-    search: &SearchOptions<'a>,
-    view: View<'_>,
+    options: AskOptions<'a, '_>,
     screen: Option<P>,
 ) -> Result<Finished, UnionFault<'a>>
-    ensures asked { IfSome (S.octets system.now path.entry.now) (λ octets. AskUnionResult (choice_texts choice.entry)
-        given.now search.now view.entry octets result) }
-    ensures sound { IfOk result HasNames }
-    ensures path { IfErr result (IsOfUnionAsk path.entry.now) }
+    ensures asked { IfSome (S.octets system.now options.entry.paths.world.now)
+        (λ octets. AskUnionResult (choice_texts options.entry.choice) options.entry.given.now
+        options.entry.search.now options.entry.view octets result) }
+    ensures names { IfOk result HasNames }
+    ensures fault { IfErr result (IsOfUnionAsk options.entry.paths.world.now) }
 {
-    let run = plan_union(alloc, system, path, given, search)?;
+    let path = options.paths.world;
+    let run = plan_union(alloc, system, path, options.given, options.search)?;
     let UnionRun {
         network,
         waits,
         charsets,
     } = run;
-    let chosen = match chosen_of(alloc, choice.only, &network) {
+    let chosen = match chosen_of(alloc, options.choice.only, &network) {
         Ok(chosen) => chosen,
         Err(fault) => return Err(UnionFault::Fault(fault)),
     };
+    let list = ListTerms {
+        view: options.view,
+        waits: waits.as_slice(),
+        charsets: charsets.as_slice(),
+    };
+    let terms = HostTerms {
+        choice: options.choice,
+        list,
+    };
     let untraced: Option<Tracer<S::Log>> = None;
-    let answered = ask_chosen(
-        alloc,
-        system,
-        network,
-        chosen,
-        waits.as_slice(),
-        untraced,
-        choice,
-        view,
-        charsets.as_slice(),
-        screen,
-    )?;
+    let answered = ask_chosen(alloc, system, network, chosen, terms, untraced, screen)?;
     let Answered { finished, trace: _ } = answered;
     Ok(finished)
 }

@@ -4,7 +4,7 @@ ghost use Rattle.zmeta_devices.specs.Devices.{output_device, outputs, streams, e
 ghost use Rattle.zmeta_commands.specs.Arguments.{AfterCall, AfterArguments, AfterUsage, IsWrong};
 ghost use Rattle.zmeta_commands.specs.Serve.{ServedAt};
 
-use crate::ask::ask_named;
+use crate::ask::{AskOptions, ask_named};
 use crate::choice::{Choice, limits_of, manner_of};
 use crate::dialogue::dialogue_named;
 use crate::doors::Doors;
@@ -233,10 +233,15 @@ fn call<'a, S: Folder + Doors + Net + Clock, R: Read, W: Write, E: Write, P: Wri
                 only: only.as_slice(),
                 limits: limits_of(&limits),
             };
-            let paths = Paths { world, saved };
-            ask_named(
-                alloc, system, paths, trace, choice, &limits, &search, view, screen, output, errors,
-            )
+            let options = AskOptions {
+                paths: Paths { world, saved },
+                trace,
+                choice,
+                given: &limits,
+                search: &search,
+                view,
+            };
+            ask_named(alloc, system, options, screen, output, errors)
         }
         Arguments::Loop {
             world,

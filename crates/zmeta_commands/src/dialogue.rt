@@ -114,7 +114,7 @@ fn text_of<'a>(alloc: Global, trace: &Trace, only: &[&'a str]) -> Result<Vec<u8>
 }
 
 /// Returns the text of the dialogue of the file at a path.
-#[tactic(auto, using(crate::proofs::Showing::untraced, crate::proofs::Showing::unread, crate::proofs::Showing::of_file, crate::proofs::Showing::of_traced, crate::proofs::Showing::of_unshown))]
+#[tactic(auto, using(crate::proofs::Showing::text_faults))]
 fn text_at<'a, F: Folder>(
     alloc: Global,
     files: &F,
@@ -123,7 +123,7 @@ fn text_at<'a, F: Folder>(
 ) -> Result<Vec<u8>, Fault<'a>>
     ensures text { IfSome (F.octets files.now path.entry.now) (λ octets. MatchResult result
         (λ text. IsFileDialogue (texts_of only.now) octets text.items) (IsFileUnshown (texts_of only.now) octets)) }
-    ensures path { IfErr result (IsOfText path.entry.now) }
+    ensures fault { IfErr result (IsOfText path.entry.now) }
 {
     let octets = octets_at(alloc, files, path)?;
     let trace = trace_in(alloc, octets.as_slice())?;
@@ -132,7 +132,7 @@ fn text_at<'a, F: Folder>(
 }
 
 /// Prints the dialogue of the file at a path.
-#[tactic(auto, using(crate::proofs::Showing::none_shown, crate::proofs::Showing::of_text, crate::proofs::Showing::put_of))]
+#[tactic(auto, using(crate::proofs::Showing::file_shown))]
 fn show_file<'a, 'o: 'a, F: Folder, W: Write>(
     alloc: Global,
     files: &F,
@@ -142,7 +142,7 @@ fn show_file<'a, 'o: 'a, F: Folder, W: Write>(
 ) -> Result<(), Fault<'a>>
     ensures shown { IfSome (F.octets files.now path.entry.now) (λ octets. ShowTraceResult (texts_of only.now) octets
         (output_device W.contents output.old) (output_device W.contents output.new) result) }
-    ensures path { IfErr result (IsOfShown path.entry.now (output_device W.contents output.old).path) }
+    ensures fault { IfErr result (IsOfShown path.entry.now (output_device W.contents output.old).path) }
 {
     match text_at(alloc, files, path, only) {
         Ok(text) => output.put(text.as_slice()),

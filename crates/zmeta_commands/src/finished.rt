@@ -50,10 +50,20 @@ pub struct Paths<'a> {
     pub saved: Option<&'a str>,
 }
 
+/// What the list of finished connections goes by, besides the connections.
+#[derive(Clone, Copy)]
+pub(crate) struct ListTerms<'a, 'w> {
+    /// What is printed.
+    pub view: View<'a>,
+    /// The waiting times that hosts have of their own.
+    pub waits: &'w [HostWaits],
+    /// The character sets that the records of targets are read in, as far as they are known.
+    pub charsets: &'w [Option<Charset>],
+}
+
 impl Finished {
     /// Returns finished connections, with the list of their facts, and why they stopped. `noticed` is what was noticed
-    /// of the host of each connection, `waits` are the waiting times that hosts have of their own, and `charsets` the
-    /// character sets that the records of targets are read in, as far as they are known.
+    /// of the host of each connection, and `limits` are those of the hosts.
     pub(crate) fn new(
         alloc: Global,
         meta: Meta,
@@ -61,23 +71,21 @@ impl Finished {
         addresses: Vec<Option<Bytes>>,
         noticed: &[Notice],
         limits: &Limits,
-        waits: &[HostWaits],
-        view: View<'_>,
-        charsets: &[Option<Charset>],
+        terms: ListTerms<'_, '_>,
     ) -> Result<Finished, AllocError>
         requires { length meta.pool.connections < 2 ^ 32 }
-        ensures { IfOk result (IsListed limits.now waits.now noticed.now meta names addresses.items
-            view.entry charsets.now) }
+        ensures { IfOk result (IsListed limits.now terms.entry.waits.now noticed.now meta names addresses.items
+            terms.entry.view terms.entry.charsets.now) }
     {
-        let stops = stops_of(alloc, &meta, noticed, limits, waits)?;
+        let stops = stops_of(alloc, &meta, noticed, limits, terms.waits)?;
         let mut list = Vec::new(alloc);
         print_view(
             alloc,
             meta.knowledge(),
             &names,
-            charsets,
+            terms.charsets,
             stops.as_slice(),
-            view,
+            terms.view,
             &mut list,
         )?;
         Ok(Finished {

@@ -8,7 +8,7 @@ ghost use Rattle.zmeta_searches.specs.Searches.{search_of};
 ghost use Rattle.zmeta_commands.specs.Loop.{IsOfNetwork, IsOfLoop, IsListedLoop, LoopFileResult, AfterLoop};
 ghost use Rattle.zmeta_world.specs.InMemoryRuns.{CanBeRun};
 
-use crate::finished::{Finished, Paths, conclude};
+use crate::finished::{Finished, ListTerms, Paths, conclude};
 use crate::run::read_in_memory;
 use crate::serve::fault_of;
 use std::alloc::Global;
@@ -54,8 +54,8 @@ fn loop_file<'a, S: Folder + Net>(
 ) -> Result<Finished, Fault<'a>>
     ensures ran { IfSome (S.octets system.now path.entry.now)
         (λ octets. LoopFileResult S.Stream (search_of search.now) view.entry octets result) }
-    ensures sound { IfOk result HasNames }
-    ensures path { IfErr result (IsOfLoop path.entry.now) }
+    ensures names { IfOk result HasNames }
+    ensures fault { IfErr result (IsOfLoop path.entry.now) }
 {
     let run = read_in_memory(alloc, system, path, search)?;
     loop_in_memory(alloc, system, run, view)
@@ -70,7 +70,7 @@ fn loop_in_memory<'a, N: Net>(
 ) -> Result<Finished, Fault<'a>>
     requires { CanBeRun run }
     ensures run { IfOk result (IsListedLoop N.Stream view.entry run) }
-    ensures sound { IfOk result HasNames }
+    ensures names { IfOk result HasNames }
     ensures network { IfErr result IsOfNetwork }
 {
     let InMemoryRun {
@@ -91,15 +91,10 @@ fn loop_in_memory<'a, N: Net>(
         Err(error) => return Err(fault_of(error)),
     };
     let limits = Limits::default();
-    Ok(Finished::new(
-        alloc,
-        meta,
-        names,
-        Vec::new(alloc),
-        &[],
-        &limits,
-        &[],
+    let terms = ListTerms {
         view,
-        &[],
-    )?)
+        waits: &[],
+        charsets: &[],
+    };
+    Ok(Finished::new(alloc, meta, names, Vec::new(alloc), &[], &limits, terms)?)
 }

@@ -10,7 +10,7 @@ ghost use Rattle.zmeta_commands.specs.Finished.{HasNames};
 ghost use Rattle.zmeta_commands.specs.Replay.{AreNames, HeadNetworkResult, ChosenResult, IsChoice, TraceFileResult, ReplayTraceResult, ReplayEntriesResult, ReplayFileResult, AreLimitsBy, IsOfReplay, IsOfTrace, AfterCut, cut_status, fault_of, at_world, AfterReplay};
 
 use crate::choice::addresses_of;
-use crate::finished::{Finished, conclude};
+use crate::finished::{Finished, ListTerms, conclude};
 use crate::worlds::{octets_at, plan, searched_in};
 use bytes::Bytes;
 use std::alloc::{AllocError, Global};
@@ -104,7 +104,7 @@ fn cut_status(is_cut: bool, status: Status) -> Status
 }
 
 /// Replays the trace of the file at a path.
-#[tactic(auto, using(crate::proofs::Replaying::untraced, crate::proofs::Replaying::unread, crate::proofs::Replaying::of_trace, crate::proofs::Replaying::of_traced, crate::proofs::Replaying::of_file))]
+#[tactic(auto, using(crate::proofs::Replaying::file_faults))]
 fn replay_file<'a, F: Folder>(
     alloc: Global,
     files: &F,
@@ -113,8 +113,8 @@ fn replay_file<'a, F: Folder>(
 ) -> Result<Playback, Fault<'a>>
     ensures replayed { IfSome (F.octets files.now path.entry.now)
         (λ octets. ReplayFileResult view.entry octets result) }
-    ensures sound { IfOk result (λ replay. HasNames replay.finished) }
-    ensures path { IfErr result (IsOfReplay path.entry.now) }
+    ensures names { IfOk result (λ replay. HasNames replay.finished) }
+    ensures fault { IfErr result (IsOfReplay path.entry.now) }
 {
     let octets = octets_at(alloc, files, path)?;
     let trace = trace_in(alloc, octets.as_slice())?;
@@ -157,7 +157,7 @@ fn names_of<'t>(alloc: Global, only: &[&'t [u8]]) -> Result<Option<Vec<&'t str>>
 }
 
 /// Plans the network run of a head. `Line(2)` if it has none, or if its world file has 2^32 octets or more.
-#[tactic(auto, using(crate::proofs::Replaying::too_large, crate::proofs::Replaying::no_search, crate::proofs::Replaying::no_plan, crate::proofs::Replaying::a_plan))]
+#[tactic(auto, using(crate::proofs::Replaying::head_plans))]
 pub(crate) fn network_of<'a>(alloc: Global, head: &Head<'_>) -> Result<NetworkRun, Fault<'a>>
     ensures network { HeadNetworkResult (head_texts head.now) result }
     ensures fit { IfOk result CanBeAsked }
@@ -226,7 +226,7 @@ fn limits_by(begun: &Begun) -> Limits
 #[tactic(auto, using(crate::proofs::Replaying::entries_replayed, crate::proofs::Replaying::head_unplanned))]
 fn replay_trace<'a>(alloc: Global, trace: &Trace, view: View<'_>) -> Result<Playback, Fault<'a>>
     ensures replayed { ReplayTraceResult view.entry trace.now result }
-    ensures sound { IfOk result (λ replay. HasNames replay.finished) }
+    ensures names { IfOk result (λ replay. HasNames replay.finished) }
     ensures fault { IfErr result IsOfTrace }
 {
     let head = match read_head(alloc, trace.entries.as_slice()) {
@@ -249,7 +249,7 @@ fn replay_network<'a>(
 ) -> Result<Playback, Fault<'a>>
     requires { CanBeAsked network }
     ensures replayed { ReplayEntriesResult view.entry trace.now (head_texts head.now) network result }
-    ensures sound { IfOk result (λ replay. HasNames replay.finished) }
+    ensures names { IfOk result (λ replay. HasNames replay.finished) }
     ensures fault { IfErr result IsOfTrace }
 {
     let names = network.names.as_slice();
@@ -279,7 +279,7 @@ fn replay_chosen<'a>(
     requires fit { CanBeAsked network }
     requires chosen { IsChoice (head_texts head.now) network chosen.items }
     ensures replayed { ReplayEntriesResult view.entry trace.now (head_texts head.now) network result }
-    ensures sound { IfOk result (λ replay. HasNames replay.finished) }
+    ensures names { IfOk result (λ replay. HasNames replay.finished) }
     ensures fault { IfErr result IsOfTrace }
 {
     let NetworkRun {
@@ -306,6 +306,11 @@ fn replay_chosen<'a>(
         is_over,
     } = replayed;
     let limits = limits_by(begun);
+    let terms = ListTerms {
+        view,
+        waits: &[],
+        charsets: &[],
+    };
     let finished = Finished::new(
         alloc,
         meta,
@@ -313,9 +318,7 @@ fn replay_chosen<'a>(
         chosen,
         notices.as_slice(),
         &limits,
-        &[],
-        view,
-        &[],
+        terms,
     )?;
     Ok(Playback {
         finished,

@@ -13,7 +13,7 @@ ghost use Rattle.zmeta_world.specs.InMemoryRuns.{CanBeRun};
 ghost use Rattle.zmeta_searches.specs.Searches.{search_of};
 ghost use Rattle.zmeta_commands.specs.Run.{ReadInMemoryResult, IsCompleteListedRun, RunFileResult, AfterRun};
 
-use crate::finished::{Finished, NAME, Paths, conclude};
+use crate::finished::{Finished, ListTerms, NAME, Paths, conclude};
 use crate::worlds::world_at;
 use bytes::Bytes;
 use std::alloc::{AllocError, Global};
@@ -64,8 +64,8 @@ fn run_file<'a, F: Folder>(
 ) -> Result<Finished, Fault<'a>>
     ensures ran { IfSome (F.octets files.now path.entry.now)
         (λ octets. RunFileResult (search_of search.now) view.entry octets result) }
-    ensures sound { IfOk result HasNames }
-    ensures path { IfErr result (IsOfSearchedWorld path.entry.now) }
+    ensures names { IfOk result HasNames }
+    ensures fault { IfErr result (IsOfSearchedWorld path.entry.now) }
 {
     let run = read_in_memory(alloc, files, path, search)?;
     Ok(run_in_memory(alloc, run, view)?)
@@ -81,7 +81,7 @@ pub(crate) fn read_in_memory<'a, F: Folder>(
     ensures in_memory_run { IfSome (F.octets files.now path.entry.now)
         (λ octets. ReadInMemoryResult (search_of search.now) octets result) }
     ensures fit { IfOk result CanBeRun }
-    ensures path { IfErr result (IsOfSearchedWorld path.entry.now) }
+    ensures fault { IfErr result (IsOfSearchedWorld path.entry.now) }
 {
     let world = world_at(alloc, files, path, search)?;
     let name = Bytes::copy_from_slice(alloc, NAME)?;
@@ -114,7 +114,7 @@ fn run_all(
 fn run_in_memory(alloc: Global, run: InMemoryRun, view: View<'_>) -> Result<Finished, AllocError>
     requires { CanBeRun run }
     ensures run { IfOk result (IsCompleteListedRun view.entry run) }
-    ensures sound { IfOk result HasNames }
+    ensures names { IfOk result HasNames }
 {
     let InMemoryRun {
         questions,
@@ -131,15 +131,10 @@ fn run_in_memory(alloc: Global, run: InMemoryRun, view: View<'_>) -> Result<Fini
         moves.as_slice(),
     )?;
     let limits = Limits::default();
-    Finished::new(
-        alloc,
-        meta,
-        names,
-        Vec::new(alloc),
-        &[],
-        &limits,
-        &[],
+    let terms = ListTerms {
         view,
-        &[],
-    )
+        waits: &[],
+        charsets: &[],
+    };
+    Finished::new(alloc, meta, names, Vec::new(alloc), &[], &limits, terms)
 }

@@ -56,7 +56,7 @@ fn serve_file<'a, S: Folder + Doors + Clock>(
     ensures serves { IfSome (S.octets system.now service.entry.world.now)
         (λ octets. ServeResult (ServedAt S S.Client S.IsAt (S.IsShut system.now)) (service_of service.entry) octets
         result) }
-    ensures path { IsServiceEnd service.entry.world.now result }
+    ensures end { IsServiceEnd service.entry.world.now result }
 {
     let mut file = file_at(system, service.world);
     let world = world_in(alloc, &mut file)?;

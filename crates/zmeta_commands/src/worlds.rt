@@ -25,9 +25,9 @@ pub(crate) fn world_in<'a, R: Read>(
     alloc: Global,
     file: &mut Input<'a, R>,
 ) -> Result<World, Fault<'a>>
-    ensures says { IfSome (R.remaining file.old.reader) (λ octets. WorldResult octets result) }
+    ensures world { IfSome (R.remaining file.old.reader) (λ octets. WorldResult octets result) }
     ensures fit { IfOk result IsFit }
-    ensures path { IfErr result (IsOfWorld file.old.path.now) }
+    ensures fault { IfErr result (IsOfWorld file.old.path.now) }
 {
     let octets = file.read_all(alloc)?;
     Ok(read_world(alloc, octets.as_slice())?)
@@ -39,10 +39,10 @@ fn searched_world<'a, R: Read>(
     file: &mut Input<'a, R>,
     search: &Search<'_>,
 ) -> Result<World, Fault<'a>>
-    ensures says { IfSome (R.remaining file.old.reader)
+    ensures world { IfSome (R.remaining file.old.reader)
         (λ octets. SearchedResult (search_texts search.now) octets result) }
     ensures fit { IfOk result IsFit }
-    ensures path { IfErr result (IsOfSearchedWorld file.old.path.now) }
+    ensures fault { IfErr result (IsOfSearchedWorld file.old.path.now) }
 {
     let world = world_in(alloc, file)?;
     Ok(world.with_search(alloc, search)?)
@@ -56,10 +56,10 @@ pub(crate) fn world_at<'a, F: Folder>(
     path: &'a str,
     search: &SearchOptions<'a>,
 ) -> Result<World, Fault<'a>>
-    ensures says { IfSome (F.octets files.now path.entry.now)
+    ensures world { IfSome (F.octets files.now path.entry.now)
         (λ octets. SearchedResult (search_of search.now) octets result) }
     ensures fit { IfOk result IsFit }
-    ensures path { IfErr result (IsOfSearchedWorld path.entry.now) }
+    ensures fault { IfErr result (IsOfSearchedWorld path.entry.now) }
 {
     let copy = copy_search(alloc, search)?;
     let mut file = file_at(files, path);
@@ -91,7 +91,7 @@ pub(crate) fn searched_in<'a>(
     search: &Search<'_>,
 ) -> Result<World, Fault<'a>>
     requires { length octets.now < 2 ^ 32 }
-    ensures says { SearchedResult (search_texts search.now) octets.now result }
+    ensures search { SearchedResult (search_texts search.now) octets.now result }
     ensures fit { IfOk result IsFit }
     ensures fault { IfErr result IsOfTexts }
 {
@@ -108,7 +108,7 @@ pub(crate) fn searched_by<'a>(
 ) -> Result<World, Fault<'a>>
     requires short { length octets.now < 2 ^ 32 }
     requires same { search_texts texts.now ≡ search_of search.now }
-    ensures says { SearchedResult (search_of search.now) octets.now result }
+    ensures search { SearchedResult (search_of search.now) octets.now result }
     ensures fit { IfOk result IsFit }
     ensures fault { IfErr result IsOfTexts }
 {

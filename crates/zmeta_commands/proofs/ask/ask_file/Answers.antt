@@ -6,6 +6,8 @@ use Rattle.zmeta_commands.proofs.ask.ask_file.Goals as goal
 
 pub returns-clause-asked : goal.returns-clause-asked
 returns-clause-asked g c =
-    asked_file (choice_texts c.args.choice) (search_of c.args.search.now) c.args.view
-    (g.S.Folder.octets c.args.system.now c.args.path.now) c.in_ok-planned.planned (finished_of c.ask_network.result)
+    let options = c.args.options in
+    asked_file (choice_texts options.choice) (search_of options.search.now) options.view
+    (g.S.Folder.octets c.args.system.now options.paths.world.now) c.in_ok-planned.planned
+    (finished_of c.ask_network.result)
     c.in_ok-planned.ensures.network c.ask_network.ensures.asked

@@ -9,13 +9,14 @@ use Rattle.zmeta_commands.proofs.ask.ask_world.Goals as goal
 
 pub returns-in-Ok : goal.returns-in-Ok
 returns-in-Ok g c =
+    let options = c.args.options in
     let logged = g.S.Folder.logged in
     let made = g.S.Folder.made in
-    traced_end g.S.Log.Write.contents (choice_texts c.args.choice) (search_of c.args.search.now) c.args.view
-    (option_map (λ (path : Bor (List ℕ)). path.now) c.args.trace) (logged c.args.system.now)
-    (logged c.conclude-status.new.files) (logged c.end_trace.new.files) c.args.paths.world.now
-    (option_map (λ (path : Bor (List ℕ)). path.now) c.args.paths.saved)
-    (g.S.Folder.octets c.args.system.now c.args.paths.world.now) (made c.args.system.now)
+    traced_end g.S.Log.Write.contents (choice_texts options.choice) (search_of options.search.now) options.view
+    (option_map (λ (path : Bor (List ℕ)). path.now) options.trace) (logged c.args.system.now)
+    (logged c.conclude-status.new.files) (logged c.end_trace.new.files) options.paths.world.now
+    (option_map (λ (path : Bor (List ℕ)). path.now) options.paths.saved)
+    (g.S.Folder.octets c.args.system.now options.paths.world.now) (made c.args.system.now)
     (made c.conclude-status.new.files) (made c.end_trace.new.files) c.in-Ok.answered.finished c.in-Ok.answered.trace
     (outputs g.W.Write.contents g.E.Write.contents c.args.output.now c.args.errors.now)
     (output_device g.W.Write.contents c.conclude-status.new.output)
@@ -26,13 +27,14 @@ returns-in-Ok g c =
 
 pub returns-in-Err : goal.returns-in-Err
 returns-in-Err g c =
+    let options = c.args.options in
     let logged = g.S.Folder.logged in
     let made = g.S.Folder.made in
-    untraced_end (choice_texts c.args.choice) (search_of c.args.search.now) c.args.view
-    (option_map (λ (path : Bor (List ℕ)). path.now) c.args.trace) (logged c.args.system.now)
-    (logged c.conclude.new.files) c.args.paths.world.now
-    (option_map (λ (path : Bor (List ℕ)). path.now) c.args.paths.saved)
-    (g.S.Folder.octets c.args.system.now c.args.paths.world.now) (made c.args.system.now) (made c.conclude.new.files)
+    untraced_end (choice_texts options.choice) (search_of options.search.now) options.view
+    (option_map (λ (path : Bor (List ℕ)). path.now) options.trace) (logged c.args.system.now)
+    (logged c.conclude.new.files) options.paths.world.now
+    (option_map (λ (path : Bor (List ℕ)). path.now) options.paths.saved)
+    (g.S.Folder.octets c.args.system.now options.paths.world.now) (made c.args.system.now) (made c.conclude.new.files)
     c.in-Err.fault (outputs g.W.Write.contents g.E.Write.contents c.args.output.now c.args.errors.now)
     (outputs g.W.Write.contents g.E.Write.contents c.conclude.new.output c.conclude.new.errors) c.conclude.result
-    c.in-Err.ensures.asked c.in-Err.ensures.path c.conclude.ensures.asked c.conclude.ensures.logged
+    c.in-Err.ensures.asked c.in-Err.ensures.fault c.conclude.ensures.asked c.conclude.ensures.logged

@@ -10,11 +10,12 @@ pub returns-clause-asked : goal.returns-clause-asked
 returns-clause-asked g c =
     let run = c.in_ok-run.run' in
     let chosen = c.in-Ok.chosen.items in
-    let choice = choice_texts c.args.choice in
+    let options = c.args.options in
+    let choice = choice_texts options.choice in
     let r = c.in_ok-answered.answered.finished in
-    asked choice c.args.given.now c.args.search.now c.args.view
-    (g.S.Folder.octets c.args.system.now c.args.path.now) run chosen r c.in_ok-run.ensures.planned
+    asked choice options.given.now options.search.now options.view
+    (g.S.Folder.octets c.args.system.now options.paths.world.now) run chosen r c.in_ok-run.ensures.planned
     c.in-Ok.ensures
     (subst₂ (λ (waits : List HostWaits) (charsets : List (Option Charset)).
-    IsAskedAt choice waits chosen c.args.view charsets run.network r)
+    IsAskedAt choice waits chosen options.view charsets run.network r)
     c.as_slice.ensures.value c.as_slice-2.ensures.value c.in_ok-answered.ensures.asked)

@@ -9,4 +9,4 @@ pub returns-in-Err-plan-clause-network : goal.returns-in-Err-plan-clause-network
 returns-in-Err-plan-clause-network c =
     let h = head_texts c.args.head.now in
     subst (λ (f : Fault). HeadNetworkResult h (Err f)) (sym c.at_world-in-Err-plan.ensures)
-    (no_plan h c.in-Ok.world c.in-Err-plan.fault c.in-Ok.ensures.says c.in-Err-plan.ensures)
+    (no_plan h c.in-Ok.world c.in-Err-plan.fault c.in-Ok.ensures.search c.in-Err-plan.ensures)

@@ -18,9 +18,11 @@ returns-clause-run c =
     c.in_ok-meta.ensures.is_run in
     let whole = subst₂ (λ questions targets. IsCompleteRun questions s targets meta) c.into_vec.ensures
     c.into_vec-2.ensures c.in_ok-meta.ensures.whole in
-    let moved = subst (λ moves. IsMovedRunInMemory c.args.run.questions s c.args.run.targets moves meta) c.as_slice.ensures
+    let moved = subst (λ moves. IsMovedRunInMemory c.args.run.questions s c.args.run.targets moves meta)
+    c.as_slice.ensures
     (subst₂ (λ questions targets. IsMovedRunInMemory questions s targets c.as_slice.result.now meta)
     c.into_vec.ensures c.into_vec-2.ensures c.in_ok-meta.ensures.moved) in
-    let listed = subst (λ addresses. IfOk c.new-2.result (IsListed c.default-limits.result [] [] meta c.args.run.names addresses c.args.view []))
+    let listed = subst (λ addresses. IfOk c.new-2.result
+    (IsListed c.default-limits.result [] [] meta c.args.run.names addresses c.args.view []))
     c.new.ensures.items c.new-2.ensures in
     listed_run c.new-2.result c.args.view c.args.run meta is whole moved _ listed
