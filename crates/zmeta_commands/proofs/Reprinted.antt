@@ -47,7 +47,7 @@ record HasEndedWell (result : Result Status Fault) (old new : Device) (status : 
   pub own : Status
   pub is : result ≡ Ok own
   pub same : new ≡ old
-  pub sound : has_broken new ≡ false
+  pub unbroken : has_broken new ≡ false
 
 ended_well : (result : Result Status Fault) (old new : Device) (status : Status) → AfterEnd result old new status
     → IsWell status → HasEndedWell result old new status
@@ -55,7 +55,7 @@ ended_well (Err f) old new status a w = absurd (no_fault f (subst IsWell a.1 w))
 ended_well (Ok own) old new status a w = by (has_broken new) refl
   where
     by : (b : Bool) → has_broken new ≡ b → HasEndedWell (Ok own) old new status
-    by false is = record { own = own; is = refl; same = a.0; sound = is }
+    by false is = record { own = own; is = refl; same = a.0; unbroken = is }
     by true is = absurd (no_refused own (subst IsWell (a.1 ∙ ap (λ (b : Bool). own_status b own) is) w))
 
 -- ---- finished connections
@@ -104,7 +104,7 @@ finished_well r kept old new before after status a w =
     let end : IsEndOfBoth r f.printed f.kept f.listed a.1 (Ok e.own) =
     subst (IsEndOfBoth r f.printed f.kept f.listed a.1) e.is f.end in
     let p = printed_by r kept old new before after f.listed a.1 f.printed f.kept e.own f.list f.file end
-    (ap has_broken (sym e.same) ∙ e.sound) in
+    (ap has_broken (sym e.same) ∙ e.unbroken) in
     subst (λ (d : Device). HasPrinted r kept old new before (record after { errors = d })) (sym e.same) p
 
 -- ---- the same lines

@@ -30,7 +30,7 @@ use Rattle.zmeta_commands.specs.Finished.{Command, AfterAsked}
 pub record IsNew {W : Type 0} (contents : W → Option (List ℕ)) (logged : MadeFiles) (t : Tracer W) : Type 0 where
   pub log : IsDraft logged (contents t.sink)
   pub lines : t.lines.items ≡ []
-  pub sound : t.has_failed ≡ false
+  pub no_failure : t.has_failed ≡ false
 
 -- the same, if there is a tracer
 abbrev pub IsFresh : {W : Type 0} → (W → Option (List ℕ)) → MadeFiles → Option (Tracer W) → Type 0

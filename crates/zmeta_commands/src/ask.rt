@@ -13,7 +13,7 @@ ghost use Rattle.zmeta_commands.specs.Ask.{CanBeAsked, IsAskedAt, AskNetworkResu
 ghost use Rattle.zmeta_commands.specs.CatalogueFiles.{AfterNamedAsk};
 ghost use Rattle.zmeta_commands.specs.Traced.{PlannedResult, IsTracedNetwork, IsTracedFile, AfterTracedAsk, finished_of};
 
-use crate::catalogue_files::ask_catalogues;
+use crate::catalogue_files::{ask_union, conclude_union, refuse_trace};
 use crate::choice::{Choice, addresses_of};
 use crate::finished::{Finished, ListTerms, Paths, conclude};
 use crate::progress::Progress;
@@ -80,8 +80,8 @@ pub(crate) struct Answered<T> {
 ///
 /// The file is a world file. If `search` has a query, wanted positions, an element set or a syntax, it replaces that of
 /// every question. Or the path is that of a file of catalogues (`zmeta_catalogue_files::is_catalogue_file`). Then
-/// `search` is put to each catalogue. A waiting time that `given` has not is the catalogue's own, if its file has one.
-/// The records of a catalogue whose file gives a charset are read in it, in all views but the list.
+/// `search` is put to each catalogue. A waiting time that `given` does not give is the catalogue's own, if its file
+/// has one. The records of a catalogue whose file gives a charset are read in it, in all views but the list.
 ///
 /// Writes a line on `errors` for each connection that failed. If `paths` has a path `saved`, then makes one file
 /// there, the saved file of the facts, and returns `Done` or `Failed` only if it holds them all. Makes no other file.
@@ -110,39 +110,56 @@ pub fn ask_named<'a, 'o: 'a, S: Folder + Net + Clock, W: Write, E: Write, P: Wri
         (S.made system.old) (S.made system.new) (outputs W.contents E.contents output.old errors.old)
         (outputs W.contents E.contents output.new errors.new) result }
 {
-    if is_catalogue_file(options.paths.world) {
-        return ask_catalogues(alloc, system, options, screen, output, errors);
+    let paths = options.paths;
+    if !is_catalogue_file(paths.world) {
+        let asked = ask_file(alloc, system, options, screen);
+        return conclude_world(alloc, system, asked, options, output, errors);
     }
-    ask_world(alloc, system, options, screen, output, errors)
+    match options.trace {
+        Some(_) => refuse_trace(alloc, paths.world, errors),
+        None => {
+            let asked = ask_union(alloc, system, options, screen);
+            conclude_union(alloc, system, asked, paths, output, errors)
+        }
+    }
 }
 
-/// The same for a world file.
-fn ask_world<'a, 'o: 'a, S: Folder + Net + Clock, W: Write, E: Write, P: Write + Drop>(
+/// Ends asking the hosts of a world file with this result of `ask_file`: prints the list, reports failed connections
+/// and saves the facts, or reports the fault. Then ends the trace, if there is a path for one.
+fn conclude_world<'a, 'o: 'a, F: Folder, W: Write, E: Write>(
     alloc: Global,
-    system: &mut S,
+    files: &mut F,
+    asked: Result<Answered<F::Log>, Fault<'a>>,
     options: AskOptions<'a, '_>,
-    screen: Option<P>,
     output: &mut Output<'o, W>,
     errors: &mut Output<'_, E>,
 ) -> Status
+    requires asked { IfSome (F.octets files.old options.paths.world.now)
+        (λ octets. AskFileResult (choice_texts options.choice) (search_of options.search.now) options.view octets
+        (finished_of asked)) }
+    requires traced { IfOk asked (λ answered. IsTracedFile F.Log.contents (F.logged files.old)
+        (choice_texts options.choice) (search_of options.search.now) (F.octets files.old options.paths.world.now)
+        answered.finished answered.trace) }
+    requires names { IfOk asked (λ answered. HasNames answered.finished) }
+    requires fault { IfErr asked (IsOfAsking options.paths.world.now) }
     ensures { AfterTracedAsk (choice_texts options.entry.choice) (search_of options.entry.search.now)
-        options.entry.view (option_map (λ path. path.now) options.entry.trace) (S.logged system.old)
-        (S.logged system.new) options.entry.paths.world.now
-        (option_map (λ path. path.now) options.entry.paths.saved) (S.octets system.old options.entry.paths.world.now)
-        (S.made system.old) (S.made system.new) (outputs W.contents E.contents output.old errors.old)
+        options.entry.view (option_map (λ path. path.now) options.entry.trace) (F.logged files.old)
+        (F.logged files.new) options.entry.paths.world.now
+        (option_map (λ path. path.now) options.entry.paths.saved) (F.octets files.old options.entry.paths.world.now)
+        (F.made files.old) (F.made files.new) (outputs W.contents E.contents output.old errors.old)
         (outputs W.contents E.contents output.new errors.new) result }
 {
     let saved = options.paths.saved;
-    match ask_file(alloc, system, options, screen) {
+    match asked {
         Ok(answered) => {
             let Answered {
                 finished,
                 trace: left,
             } = answered;
-            let status = conclude(alloc, system, Ok(finished), saved, output, errors);
-            end_trace(system, options.trace, left, status, errors)
+            let status = conclude(alloc, files, Ok(finished), saved, output, errors);
+            end_trace(files, options.trace, left, status, errors)
         }
-        Err(fault) => conclude(alloc, system, Err(fault), saved, output, errors),
+        Err(fault) => conclude(alloc, files, Err(fault), saved, output, errors),
     }
 }
 

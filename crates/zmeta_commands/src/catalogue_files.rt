@@ -5,7 +5,7 @@ ghost use Rattle.std.specs.Option.{option_map};
 ghost use Rattle.zmeta_catalogue_files.specs.declared.refusal.UnionFault.TheVariants as unions;
 ghost use Rattle.zmeta_devices.specs.Devices.{output_device, outputs};
 ghost use Rattle.zmeta_commands.specs.Ask.{CanBeAsked};
-ghost use Rattle.zmeta_commands.specs.CatalogueFiles.{own_seconds, IsSpan, IsOwnWait, AreOwnWaits, PlanUnionResult, AskUnionResult, IsOfUnionPlan, IsOfUnionAsk, AfterUnionAsked, trace_line, AfterTraceRefused, AfterUnionAsk};
+ghost use Rattle.zmeta_commands.specs.CatalogueFiles.{own_seconds, IsSpan, IsOwnWait, AreOwnWaits, PlanUnionResult, AskUnionResult, IsOfUnionPlan, IsOfUnionAsk, AfterUnionAsked, trace_line, AfterTraceRefused};
 ghost use Rattle.zmeta_commands.specs.Choice.{choice_texts};
 ghost use Rattle.zmeta_commands.specs.Finished.{HasNames};
 
@@ -32,44 +32,6 @@ struct UnionRun {
     network: NetworkRun,
     waits: Vec<HostWaits>,
     charsets: Vec<Option<Charset>>,
-}
-
-/// Puts the search of the options to each catalogue of a file, and prints what is known, as `ask_named` does for a
-/// world file. A catalogue is waited for as an option says; if none does, as its file says; else as `choice` does. The
-/// records of a catalogue are read in the charset that its file gives, if it gives one.
-///
-/// If `trace` is a path, reads nothing, writes the reason on `errors` and returns `Refused`: a trace holds a world
-/// file. `Memory` if no memory is found for that.
-pub(crate) fn ask_catalogues<
-    'a,
-    'o: 'a,
-    S: Folder + Net + Clock,
-    W: Write,
-    E: Write,
-    P: Write + Drop,
->(
-    alloc: Global,
-    system: &mut S,
-    options: AskOptions<'a, '_>,
-    screen: Option<P>,
-    output: &mut Output<'o, W>,
-    errors: &mut Output<'_, E>,
-) -> Status
-    ensures { AfterUnionAsk (choice_texts options.entry.choice) options.entry.given.now options.entry.search.now
-        options.entry.view (option_map (λ path. path.now) options.entry.trace) (S.logged system.old)
-        (S.logged system.new) options.entry.paths.world.now
-        (option_map (λ path. path.now) options.entry.paths.saved) (S.octets system.old options.entry.paths.world.now)
-        (S.made system.old) (S.made system.new) (outputs W.contents E.contents output.old errors.old)
-        (outputs W.contents E.contents output.new errors.new) result }
-{
-    let paths = options.paths;
-    match options.trace {
-        Some(_) => refuse_trace(alloc, paths.world, errors),
-        None => {
-            let asked = ask_union(alloc, system, options, screen);
-            conclude_union(alloc, system, asked, paths, output, errors)
-        }
-    }
 }
 
 /// The seconds that a catalogue has of its own: those that its file says, if no option gives them for all.
@@ -152,9 +114,11 @@ fn plan_union<'a, F: Folder>(
     })
 }
 
-/// Asks the chosen catalogues of the file at the path `paths.world`.
+/// Asks the chosen catalogues of the file at the path `paths.world`, and makes the list. A catalogue is waited for as
+/// an option says; if none does, as its file says; else as `choice` does. The records of a catalogue are read in the
+/// charset that its file gives, if it gives one.
 #[tactic(auto, using(crate::proofs::Unions::ask_faults))]
-fn ask_union<'a, S: Folder + Net + Clock, P: Write + Drop>(
+pub(crate) fn ask_union<'a, S: Folder + Net + Clock, P: Write + Drop>(
     alloc: Global,
     system: &S,
     options: AskOptions<'a, '_>,
@@ -194,7 +158,7 @@ fn ask_union<'a, S: Folder + Net + Clock, P: Write + Drop>(
 
 /// Ends asking the catalogues of a file with this result: prints the list, reports failed connections and saves the
 /// facts, or reports the fault.
-fn conclude_union<'a, 'o: 'a, F: Folder, W: Write, E: Write>(
+pub(crate) fn conclude_union<'a, 'o: 'a, F: Folder, W: Write, E: Write>(
     alloc: Global,
     files: &mut F,
     asked: Result<Finished, UnionFault<'a>>,
@@ -226,8 +190,13 @@ fn trace_line(alloc: Global, path: &str) -> Result<Vec<u8>, AllocError>
     Ok(line)
 }
 
-/// Refuses a trace of asking the catalogues of the file at a path.
-fn refuse_trace<E: Write>(alloc: Global, path: &str, errors: &mut Output<'_, E>) -> Status
+/// Refuses a trace of asking the catalogues of the file at a path: a trace holds a world file. Writes the reason on
+/// `errors`, and returns `Refused`; `Memory` if no memory is found for that.
+pub(crate) fn refuse_trace<E: Write>(
+    alloc: Global,
+    path: &str,
+    errors: &mut Output<'_, E>,
+) -> Status
     ensures { AfterTraceRefused path.now (output_device E.contents errors.old)
         (output_device E.contents errors.new) result }
 {
