@@ -50,7 +50,7 @@ list_done path octets cs before after (Err f) are put same = absurd put
 
 -- the mistakes of the file were told
 pub mistakes_told : (path octets : List ℕ) (error : CatalogueError) (before after : Outputs) (r : Result Status Fault)
-    → IsFileError octets error → error ≢ errors.Memory → TellResult path before.errors after.errors r
+    → IsFileError octets error → error ≢ errors.Memory → TellResult path octets before.errors after.errors r
     → after.output ≡ before.output → ListResult path octets before after r
 mistakes_told path octets error before after (Ok status) is own told same =
     subst (λ s. ListResult path octets before after (Ok s)) (sym told.0)
@@ -58,10 +58,10 @@ mistakes_told path octets error before after (Ok status) is own told same =
 mistakes_told path octets error before after (Err f) is own told same =
     subst (λ f. ListResult path octets before after (Err f)) (sym told.0) (same, told.1)
 
-pub tell_fault : (path : List ℕ) (old new : Device) (r : Result Status Fault) → TellResult path old new r
-    → IfErr r (IsListFault path)
-tell_fault path old new (Ok status) told = tt
-tell_fault path old new (Err f) told = subst (IsListFault path) (sym told.0) tt
+pub tell_fault : (path octets : List ℕ) (old new : Device) (r : Result Status Fault)
+    → TellResult path octets old new r → IfErr r (IsListFault path)
+tell_fault path octets old new (Ok status) told = tt
+tell_fault path octets old new (Err f) told = subst (IsListFault path) (sym told.0) tt
 
 -- ---- the file
 

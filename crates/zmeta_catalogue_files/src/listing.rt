@@ -1,8 +1,8 @@
 //! The command `catalogues`: the catalogues of a file, or its mistakes.
 
-ghost use Rattle.std.specs.Prelude.{◌<◌, length, IfOk, IfErr, IfSome, OnOk};
+ghost use Rattle.std.specs.Prelude.{length, IfOk, IfErr, IfSome, OnOk};
 ghost use Rattle.zmeta_devices.specs.Devices.{output_device, outputs};
-ghost use Rattle.zmeta_catalogue_files.specs.Listing.{HasErrorLines, PutTextResult, PutListResult, TellResult, ListResult, IsListFault, AfterCatalogues};
+ghost use Rattle.zmeta_catalogue_files.specs.Listing.{AreToldOf, HasErrorLines, PutTextResult, PutListResult, TellResult, ListResult, IsListFault, AfterCatalogues};
 
 use crate::lines::catalogue_lines;
 use crate::paths::octets_at;
@@ -17,8 +17,8 @@ use zmeta_devices::output::Output;
 /// Prints the catalogues of the file at a path, a line for each in the order of their lines in the file: what the file
 /// says of it.
 ///
-/// If the file is refused, writes each of its mistakes as a line on `errors` and prints nothing. The status is then
-/// `Refused`.
+/// If the file is refused, writes each of its mistakes as a line on `errors`, in the order of their lines, and prints
+/// nothing. The status is then `Refused`.
 pub fn catalogues_named<'a, 'o: 'a, F: Folder, W: Write, E: Write>(
     alloc: Global,
     files: &F,
@@ -126,17 +126,17 @@ fn all_mistakes(
     octets: &[u8],
     error: CatalogueError,
 ) -> Result<Vec<CatalogueError>, AllocError>
-    ensures { IfOk result (λ all. 0 < length all.items) }
+    ensures { IfOk result (λ all. AreToldOf octets.now (length all.items)) }
 {
     let mut all = mistakes_of(alloc, octets)?;
     if all.is_empty() {
         all.push(error)?;
+        return Ok(all);
     }
     Ok(all)
 }
 
 /// Writes a line for each mistake of a file with these octets on `errors`.
-#[tactic(auto, using(crate::proofs::ErrorLines::errors_told))]
 fn tell_mistakes<'e, E: Write>(
     alloc: Global,
     octets: &[u8],
@@ -144,7 +144,8 @@ fn tell_mistakes<'e, E: Write>(
     path: &str,
     errors: &mut Output<'_, E>,
 ) -> Result<Status, Fault<'e>>
-    ensures { TellResult path.now (output_device E.contents errors.old) (output_device E.contents errors.new) result }
+    ensures { TellResult path.now octets.now (output_device E.contents errors.old)
+        (output_device E.contents errors.new) result }
 {
     let all = all_mistakes(alloc, octets, error)?;
     let mut lines = Vec::new(alloc);

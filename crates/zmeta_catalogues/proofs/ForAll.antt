@@ -9,14 +9,14 @@ use Rattle.zmeta_catalogues.specs.Keys.{name_of}
 use Rattle.zmeta_catalogues.specs.Values.{Reading, bind, value_of, text_of, number_of, charset_of, syntax_text_of, records_of}
 use Rattle.zmeta_catalogues.specs.Catalogues.{with_numbers, settings_of, AreForAll}
 
-abbrev read : Settings → Reading Settings
+abbrev pub read : Settings → Reading Settings
 read s = Ok s
 
-read_same : (s t : Settings) → read s ≡ read t → s ≡ t
+pub read_same : (s t : Settings) → read s ≡ read t → s ≡ t
 read_same s t h = cc
 
 -- the settings of these readings, with these texts
-abbrev numbered : Reading (Option ℕ) → Reading (Option ℕ) → Reading (Option Charset) → Reading (Option ℕ)
+abbrev pub numbered : Reading (Option ℕ) → Reading (Option ℕ) → Reading (Option Charset) → Reading (Option ℕ)
     → Reading (Option ℕ) → Option (List ℕ) → Option (List ℕ) → Option (List ℕ) → Reading Settings
 numbered step window charset patience connect syntax elements records =
     bind step (λ step.
@@ -53,7 +53,7 @@ texts_kept (Ok step) (Ok window) (Ok charset) (Err e) connect syntax elements re
 texts_kept (Ok step) (Ok window) (Ok charset) (Ok patience) (Err e) syntax elements records s h = absurd (cc)
 
 -- all three texts were read
-texts_read : (syntax elements records : Reading (Option (List ℕ)))
+pub texts_read : (syntax elements records : Reading (Option (List ℕ)))
     (next : Option (List ℕ) → Option (List ℕ) → Option (List ℕ) → Reading Settings) (s : Settings)
     → bind syntax (λ x. bind elements (λ y. bind records (λ z. next x y z))) ≡ Ok s
     → (x : Option (List ℕ)) × (y : Option (List ℕ)) × (z : Option (List ℕ)) × (syntax ≡ Ok x) × (elements ≡ Ok y)

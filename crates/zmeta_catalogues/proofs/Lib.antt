@@ -11,3 +11,8 @@ pub mod Nearest
 pub mod Others
 pub mod Unknown
 pub mod Asking
+pub mod Growing
+pub mod SettingFaults
+pub mod NoMistakes
+pub mod TooMany
+pub mod Told

@@ -9,6 +9,7 @@ pub mod Catalogues
 pub mod Operands
 pub mod Files
 pub mod FileErrors
+pub mod Mistakes
 pub mod Terms
 pub mod Asked
 pub mod AskErrors

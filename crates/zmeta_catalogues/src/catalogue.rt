@@ -254,7 +254,7 @@ pub(crate) fn settings_of(
 }
 
 /// Reads the text at a key of a table.
-fn text_at(alloc: Global, key: Key, table: &Table) -> Result<Option<Bytes>, Stop>
+pub(crate) fn text_at(alloc: Global, key: Key, table: &Table) -> Result<Option<Bytes>, Stop>
     ensures { Reads (text_at key (table_view table.now)) result }
 {
     text_of(alloc, key, member(table, key.name()))
@@ -304,7 +304,11 @@ fn own_terms(alloc: Global, own: &Table) -> Result<Terms, Stop>
 }
 
 /// Reads the query that replaces the search, in the character set of the catalogue.
-fn own_query(alloc: Global, charset: Option<Charset>, own: &Table) -> Result<Option<Bytes>, Stop>
+pub(crate) fn own_query(
+    alloc: Global,
+    charset: Option<Charset>,
+    own: &Table,
+) -> Result<Option<Bytes>, Stop>
     ensures { Reads (query_of charset (get_member (name_of Key.Query) (table_view own.now))) result }
 {
     query_of(alloc, charset, member(own, Key::Query.name()))

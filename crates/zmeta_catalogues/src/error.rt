@@ -2,6 +2,7 @@
 
 ghost use Rattle.std.specs.Prelude.{◌≡◌};
 ghost use Rattle.zmeta_catalogues.specs.declared.error.CatalogueError.TheVariants.{Memory};
+ghost use Rattle.zmeta_catalogues.specs.Mistakes.{error_line};
 
 use crate::fault::{FaultKind, Key, SettingFault};
 use bytes::Bytes;
@@ -78,7 +79,9 @@ impl<T: Drop> From<AllocFailed<T>> for CatalogueError {
 
 impl CatalogueError {
     /// Returns the line, from 1; 0 if there is none.
-    pub fn line(&self) -> u64 {
+    pub fn line(&self) -> u64
+        ensures { result ≡ error_line self.now }
+    {
         match self {
             CatalogueError::ByteOrderMark => 1,
             CatalogueError::NotUtf8 { line, .. } => *line,

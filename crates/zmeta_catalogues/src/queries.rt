@@ -12,7 +12,7 @@ use std::alloc::Global;
 
 /// Checks that the text of a term is a prefix, if there is one.
 #[tactic(auto, using(crate::proofs::Prefixes::given_prefix_stop))]
-fn check_prefix(alloc: Global, key: Key, text: &Option<Bytes>) -> Result<(), Stop>
+pub(crate) fn check_prefix(alloc: Global, key: Key, text: &Option<Bytes>) -> Result<(), Stop>
     ensures ok { IfOk result (λ _. HasPrefix text.now) }
     ensures err { IfErr result (IsGivenPrefixStop key text.now) }
 {
@@ -23,7 +23,7 @@ fn check_prefix(alloc: Global, key: Key, text: &Option<Bytes>) -> Result<(), Sto
 }
 
 /// Checks that the query of a catalogue is one, if there is one.
-fn check_query(alloc: Global, text: &Option<Bytes>) -> Result<(), Stop>
+pub(crate) fn check_query(alloc: Global, text: &Option<Bytes>) -> Result<(), Stop>
     ensures ok { IfOk result (λ _. HasQuery text.now) }
     ensures err { IfErr result (IsGivenQueryStop text.now) }
 {

@@ -383,6 +383,24 @@ fn in_order(read: Vec<Catalogue>) -> Result<Catalogues, AllocError>
     })
 }
 
+/// Reads the catalogues of a document whose lines are known.
+pub(crate) fn read_document(
+    alloc: Global,
+    source: &Source<'_>,
+    top: &Table,
+) -> Result<Catalogues, CatalogueError>
+    requires source { IsSource source.now }
+    requires unmarked { is_marked source.now.text.now ≡ false }
+    requires parsed { parse_document source.now.text.now ≡ Some (table_view top.now) }
+    ensures catalogues { IfOk result (λ file. AreCataloguesOf source.now.text.now file.list) }
+    ensures few { IfOk result (λ file. length file.list < 2 ^ 32) }
+    ensures err { IfErr result (IsDocumentError source.now.text.now (table_view top.now)) }
+{
+    let for_all = top_settings(alloc, source, top)?;
+    let read = few_catalogues(alloc, source, top, &for_all)?;
+    Ok(in_order(read)?)
+}
+
 /// Reads the catalogues of a file whose lines are known.
 #[tactic(auto, using(crate::proofs::FileErrors::refused_document, crate::proofs::FileErrors::refused_octets))]
 fn read_source(alloc: Global, source: &Source<'_>) -> Result<Catalogues, CatalogueError>
@@ -392,9 +410,8 @@ fn read_source(alloc: Global, source: &Source<'_>) -> Result<Catalogues, Catalog
     ensures err { IfErr result (IsFileError source.now.text.now) }
 {
     let top = document(alloc, source.text)?;
-    let for_all = top_settings(alloc, source, &top)?;
-    let read = few_catalogues(alloc, source, &top, &for_all)?;
-    Ok(in_order(read)?)
+    let file = read_document(alloc, source, &top)?;
+    Ok(file)
 }
 
 /// Reads a file of catalogues, in TOML.
