@@ -129,7 +129,8 @@ fn table_text_at<'a, F: Folder>(
     files: &F,
     path: &'a str,
 ) -> Result<Vec<u8>, ConversionFault<'a>>
-    ensures { IfSome (F.octets files.now path.entry.now) (λ octets. TableTextResult octets (made_text (λ t. t.items) result)) }
+    ensures { IfSome (F.octets files.now path.entry.now)
+        (λ octets. TableTextResult octets (made_text (λ t. t.items) result)) }
 {
     match file_at(files, path).read_all(alloc) {
         Ok(octets) => table_text(alloc, octets.as_slice()),
@@ -286,8 +287,8 @@ pub fn world_of_catalogues<'a, 'o: 'a, F: Folder, W: Write, E: Write>(
 
 /// Prints the file of catalogues of the world file at a path.
 ///
-/// If a line of it is refused, or a question has no table, writes one line on `errors` and prints nothing. The status is
-/// then `Refused`.
+/// If a line of it is refused, or a question has no table, writes one line on `errors` and prints nothing. The status
+/// is then `Refused`.
 pub fn catalogues_of_world<'a, 'o: 'a, F: Folder, W: Write, E: Write>(
     alloc: Global,
     files: &F,
