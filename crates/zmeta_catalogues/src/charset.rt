@@ -50,8 +50,8 @@ fn latin1(alloc: Global, text: &str) -> Result<Option<Bytes>, AllocError>
     Ok(Some(Bytes::from_vec(octets)?))
 }
 
-/// Returns the octets of the text in this character set, if the set has all characters of the text; in UTF-8, if none is
-/// given. `AllocError` if no memory is found.
+/// Returns the octets of the text in this character set, if the set has all characters of the text; in UTF-8, if none
+/// is given. `AllocError` if no memory is found.
 pub(crate) fn octets_in(
     alloc: Global,
     charset: Option<Charset>,
