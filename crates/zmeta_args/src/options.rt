@@ -419,7 +419,9 @@ pub(crate) const AS_TOML: CommandOption = CommandOption {
     value: None,
     is_many: false,
     most_seconds: None,
-    excludes: &[],
+    excludes: &[
+        "title", "author", "subject", "isbn", "issn", "year", "any", "query", "records", "syntax",
+    ],
     needs: &[],
 };
 
