@@ -10,6 +10,7 @@ use Rattle.zmeta_catalogues.specs.Files.{AreCataloguesOf}
 use Rattle.zmeta_catalogues.specs.FileErrors.{IsFileError}
 use Rattle.zmeta_devices.specs.declared.fault.Fault.{Fault}
 use Rattle.zmeta_devices.specs.declared.fault.Fault.TheVariants.{Read, Memory}
+use Rattle.zmeta_catalogue_files.proofs.Faults.{file_fault}
 use Rattle.zmeta_catalogue_files.specs.declared.refusal.UnionFault.{UnionFault}
 use Rattle.zmeta_catalogue_files.specs.declared.refusal.UnionFault.TheVariants as faults
 use Rattle.zmeta_catalogue_files.specs.declared.unions.Union.{Union}
@@ -62,3 +63,8 @@ pub union_unread_fault : (path : List ℕ) (f : Fault) → IsReadFault path f �
 union_unread_fault path (Read failed) is = is
 union_unread_fault path Memory is = tt
 union_unread_fault path f is = absurd is
+
+-- the union of octets that were read, of a file, and why there is none
+pub ruleset made_unions = (union_made, file_refused, file_fault)
+
+pub ruleset read_unions = (union_read, union_unread, union_unread_fault)

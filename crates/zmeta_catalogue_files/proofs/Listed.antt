@@ -89,3 +89,8 @@ pub unread_fault : (path : List ℕ) (f : Fault) → IsReadFault path f → IsLi
 unread_fault path (Read failed) is = is
 unread_fault path Memory is = tt
 unread_fault path f is = absurd is
+
+-- a file that was read or not, and the lines that it gives
+pub ruleset list_results = (list_read, list_unread, unread_fault)
+
+pub ruleset tell_results = (list_done, list_fault, mistakes_told, tell_fault)

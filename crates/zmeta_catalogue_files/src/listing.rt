@@ -35,7 +35,7 @@ pub fn catalogues_named<'a, 'o: 'a, F: Folder, W: Write, E: Write>(
 }
 
 /// Prints the catalogues of the file at a path, or its mistakes.
-#[tactic(auto, using(crate::proofs::Listed::list_read, crate::proofs::Listed::list_unread, crate::proofs::Listed::unread_fault))]
+#[tactic(auto, using(crate::proofs::Listed::list_results))]
 fn list_file<'a, 'o: 'a, F: Folder, W: Write, E: Write>(
     alloc: Global,
     files: &F,
@@ -55,7 +55,7 @@ fn list_file<'a, 'o: 'a, F: Folder, W: Write, E: Write>(
 }
 
 /// Prints the catalogues of a file with these octets, or its mistakes, with this path.
-#[tactic(auto, using(crate::proofs::Listed::list_done, crate::proofs::Listed::list_fault, crate::proofs::Listed::mistakes_told, crate::proofs::Listed::tell_fault))]
+#[tactic(auto, using(crate::proofs::Listed::tell_results))]
 fn list_octets<'a, 'o: 'a, W: Write, E: Write>(
     alloc: Global,
     octets: &[u8],

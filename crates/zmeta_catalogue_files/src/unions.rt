@@ -147,7 +147,7 @@ fn union_of<'a>(
 }
 
 /// Returns the union of the catalogues of a file with these octets.
-#[tactic(auto, using(crate::proofs::Files::union_made, crate::proofs::Files::file_refused, crate::proofs::Faults::file_fault))]
+#[tactic(auto, using(crate::proofs::Files::made_unions))]
 fn union_in<'a>(
     alloc: Global,
     octets: &[u8],
@@ -169,7 +169,7 @@ fn union_in<'a>(
 /// The faults: `Fault(Read)` if the file cannot be read; `Refused` if it is refused; `Fault` of an option whose text is
 /// refused as it is: `Query`, `Wanted`, `Syntax`; `Unasked` if the search cannot be put to a catalogue for another
 /// reason; `Fault(Memory)` if no memory is found.
-#[tactic(auto, using(crate::proofs::Files::union_read, crate::proofs::Files::union_unread, crate::proofs::Files::union_unread_fault))]
+#[tactic(auto, using(crate::proofs::Files::read_unions))]
 pub fn union_at<'a, F: Folder>(
     alloc: Global,
     files: &F,

@@ -132,3 +132,7 @@ question_put q text old new s put = (
   ap (λ (z : Option Unsaid). option_map (λ (x : Unsaid). (q.name, x)) z) s.said,
   put ∙ ap (λ (z : List ℕ). old ++ (z ++ 10 ∷ [])) s.line,
 )
+
+-- a question that is said, or why it is refused
+pub ruleset question_results =
+    (databases_refused, elements_refused, query_refused, feed_refused, question_said)

@@ -96,3 +96,6 @@ first_untabled_is hosts line qs i q old was errors.Memory lt is h p = tt
 pub table_refused : (due : Option Untabled) (text old new : List ℕ) (e f : CatalogueFileError)
     (r : Result Unit CatalogueFileError) → r ≡ Err f → f ≡ e → IsUntabled due e → TableResult due text old new r
 table_refused due text old new e f r is of h = rw (is, of) h
+
+-- the text of a table, or why there is none
+pub ruleset table_results = (no_address, no_place, no_text, table_put)

@@ -263,7 +263,7 @@ fn text_of(alloc: Global, query: &Query) -> Result<Option<Vec<u8>>, CatalogueFil
 }
 
 /// Appends the table of a question.
-#[tactic(auto, using(crate::proofs::Tables::no_address, crate::proofs::Tables::no_place, crate::proofs::Tables::no_text, crate::proofs::Tables::table_put))]
+#[tactic(auto, using(crate::proofs::Tables::table_results))]
 fn put_table(
     alloc: Global,
     hosts: &[NamedHost],

@@ -145,7 +145,7 @@ fn ask_text(alloc: Global, asked: &AskedQuestion, query: &[u8]) -> Result<Vec<u8
 }
 
 /// Returns the line of a question, if it can be said.
-#[tactic(auto, using(crate::proofs::Reasons::databases_refused, crate::proofs::Reasons::elements_refused, crate::proofs::Reasons::query_refused, crate::proofs::Reasons::feed_refused, crate::proofs::Reasons::question_said))]
+#[tactic(auto, using(crate::proofs::Reasons::question_results))]
 fn said_text(alloc: Global, asked: &AskedQuestion) -> Result<Vec<u8>, WorldFileError>
     ensures ok { IfOk result (λ text. IsSaid asked.now text.items) }
     ensures err { IfErr result (IsUnsaid (unsaid_question asked.now)) }

@@ -74,10 +74,10 @@ pub record IsShown (s t : Stream) (old new : List ℕ) : Type 0 where
   pub writes : Writes value element
   pub text : new ≡ old ++ apdu_text value
   pub limited : t.limit ≡ s.limit
-  pub sound : t.fault ≡ s.fault
+  pub no_fault : t.fault ≡ s.fault
 
 shown_one : (s t : Stream) (old new : List ℕ) → ShowNextResult s t old new (Ok true) → IsShown s t old new
-shown_one s t old new m = record { element = m.0; value = m.1; begins = m.2; writes = m.3; text = m.4; limited = ap (λ z. z.limit) m.5; sound = ap (λ z. z.fault) m.5 }
+shown_one s t old new m = record { element = m.0; value = m.1; begins = m.2; writes = m.3; text = m.4; limited = ap (λ z. z.limit) m.5; no_fault = ap (λ z. z.fault) m.5 }
 
 pub is_shown : (s t : Stream) (old new : List ℕ) (b : Bool) → ShowNextResult s t old new (Ok b) → b ≡ true → IsShown s t old new
 is_shown s t old new b m q = shown_one s t old new (subst (λ z. ShowNextResult s t old new (Ok z)) q m)

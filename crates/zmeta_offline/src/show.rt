@@ -93,7 +93,7 @@ fn show_octets(alloc: Global, octets: &[u8], text: &mut Vec<u8>) -> Result<(), F
 /// fault.
 fn show_next(alloc: Global, framer: &mut Framer, text: &mut Vec<u8>) -> Result<bool, Fault<'static>>
     requires limited { framer.old.stream.limit ≡ MESSAGE_LIMIT }
-    requires sound { framer.old.stream.fault ≡ None }
+    requires no_fault { framer.old.stream.fault ≡ None }
     ensures { ShowNextResult framer.old.stream framer.new.stream text.old.items text.new.items result }
 {
     let Some(message) = framer.next()? else {

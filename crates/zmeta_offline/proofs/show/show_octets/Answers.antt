@@ -9,7 +9,7 @@ loop-framer-preserved c =
     let before = c.loop-framer in
     let step = is_shown before.framer.stream c.show_next.new.framer.stream before.text.items c.show_next.new.text.items c.in_ok-show_next.field-0 c.in_ok-show_next.ensures c.if-branch.true in record {
       limited = step.limited ∙ before.invariant.limited;
-      sound = step.sound ∙ before.invariant.sound;
+      no_fault = step.no_fault ∙ before.invariant.no_fault;
       so_far = shown_more c.args.octets.now before.framer.stream.octets c.show_next.new.framer.stream.octets c.args.text.now.items before.text.items c.show_next.new.text.items step.element step.value before.invariant.so_far step.begins step.writes step.text;
     }
 
@@ -30,10 +30,10 @@ pub returns-in_err-finish : goal.returns-in_err-finish
 returns-in_err-finish c =
     let before = c.loop-framer in
     unfinished_end c.args.octets.now c.args.text.now.items before.text.items c.show_next.new.text.items before.framer.stream c.show_next.new.framer.stream c.in_ok-show_next.field-0 c.in_err-finish.field-0.0 c.from_residual-in_err-finish.result
-    before.invariant.sound before.invariant.so_far c.in_ok-show_next.ensures c.if-branch.false c.in_err-finish.ensures c.from_residual-in_err-finish.ensures.1
+    before.invariant.no_fault before.invariant.so_far c.in_ok-show_next.ensures c.if-branch.false c.in_err-finish.ensures c.from_residual-in_err-finish.ensures.1
 
 pub returns : goal.returns
 returns c =
     let before = c.loop-framer in
     whole_end c.args.octets.now c.args.text.now.items before.text.items c.show_next.new.text.items before.framer.stream c.show_next.new.framer.stream c.in_ok-show_next.field-0 c.in_ok-finish.field-0
-    before.invariant.sound before.invariant.so_far c.in_ok-show_next.ensures c.if-branch.false c.in_ok-finish.ensures
+    before.invariant.no_fault before.invariant.so_far c.in_ok-show_next.ensures c.if-branch.false c.in_ok-finish.ensures

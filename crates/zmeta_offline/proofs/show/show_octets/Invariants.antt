@@ -7,7 +7,7 @@ use Rattle.zmeta_offline.proofs.show.show_octets.Given as goal
 abbrev pub invariant-loop-framer : goal.invariant-loop-framer
 invariant-loop-framer l = record {
   limited : l.framer.stream.limit ≡ MESSAGE_LIMIT;
-  sound : l.framer.stream.fault ≡ None;
+  no_fault : l.framer.stream.fault ≡ None;
   so_far : HasShown l.octets l.framer.stream.octets l.initial.text.items l.text.items;
 }
 
