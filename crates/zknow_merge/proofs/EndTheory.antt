@@ -25,7 +25,7 @@ use Rattle.zknow_merge.specs.Refusals.{step_of}
 
 -- ---- a source that is done
 
-done_by : (s : Source) → s.waiting ≡ false → (s.names ≡ None → ⊥) → (IsWanting s → ⊥) → (b : Bool) → s.ended ≡ b → (o : List ℕ) → s.octets.items ≡ o → IsDone s
+pub done_by : (s : Source) → s.waiting ≡ false → (s.names ≡ None → ⊥) → (IsWanting s → ⊥) → (b : Bool) → s.ended ≡ b → (o : List ℕ) → s.octets.items ≡ o → IsDone s
 done_by s waits named settled true ended [] none = record { merged = waits; ended = ended; read = none; named = named }
 done_by s waits named settled true ended (x ∷ xs) some =
     absurd (settled (record { merged = waits; more = λ done. omega (arith, ap length (sym some ∙ done.read)) }))

@@ -17,3 +17,4 @@ pub mod StartTheory
 pub mod NextTheory
 pub mod JoinTheory
 pub mod FileTheory
+pub mod ScanTheory

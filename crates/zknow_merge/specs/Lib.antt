@@ -5,6 +5,7 @@ pub mod Heads
 pub mod Canonical
 pub mod Plain
 pub mod Sources
+pub mod Scans
 pub mod Refusals
 pub mod Merges
 pub mod Files

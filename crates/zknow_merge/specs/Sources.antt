@@ -75,6 +75,15 @@ pub record HasReadFacts (merged : List Fact) (front : List ℕ) (s : Source) : T
   pub passed : (f : Fact) → Contains facts f → Contains merged f ⊎ ((s.waiting ≡ true) × IsLastFact facts f)
   pub behind : (IsDone s → ⊥) → (f : Fact) → Contains merged f → (g : Fact) × Contains facts g × IsAtMost f g
 
+-- nothing has come of the source's input
+pub record IsNewSource (s : Source) : Type 0 where
+  pub octets : s.octets.items ≡ []
+  pub ended : s.ended ≡ false
+  pub names : s.names ≡ None
+  pub last : s.last ≡ None
+  pub count : s.count ≡ 0
+  pub waits : s.waiting ≡ false
+
 -- the source has read nothing, and nothing was merged
 pub record HasReadNothing (merged : List Fact) (front : List ℕ) (s : Source) : Type 0 where
   pub names : s.names ≡ None

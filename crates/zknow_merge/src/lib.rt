@@ -4,6 +4,7 @@
 
 mod canonical;
 mod choice;
+mod first;
 mod front;
 mod head;
 pub mod laws;
@@ -11,8 +12,11 @@ mod merge;
 mod names;
 mod plain;
 mod refusal;
+mod scan;
 mod source;
 mod step;
 
+pub use first::{FirstError, first_fact};
 pub use merge::Merge;
+pub use scan::{FactKind, FactPlace, Scan, ScanStep};
 pub use step::Step;

@@ -1,11 +1,11 @@
 //! One input of a merge: its octets that are not read yet, and the last fact that was read.
-ghost use Rattle.std.specs.Prelude.{◌≡◌, ◌≢◌, ◌↔◌, Ok, ◌<◌, ◌∷◌, ◌++◌, true, false, List, [], None, length, IsTrue, IfOk, OnOk, OnErr};
+ghost use Rattle.std.specs.Prelude.{◌≡◌, ◌≢◌, ◌↔◌, Ok, ◌+◌, ◌<◌, ◌∷◌, ◌++◌, true, false, List, [], None, length, IsTrue, IfOk, OnOk, OnErr};
 ghost use Rattle.std.specs.List.Sorted.{IsStrictlySortedBy};
 ghost use Rattle.zknow.specs.declared.fact.Fact.{Fact};
 ghost use Rattle.zknow.specs.Facts.{fact_cmp};
 ghost use Rattle.zknow_merge.specs.Heads.{IsKeyOf};
 ghost use Rattle.zknow_merge.specs.Inputs.{Input, fed, at_end, no_input};
-ghost use Rattle.zknow_merge.specs.Sources.{IsLastHead, IsWanting, IsReadFrom, IsReadStep, IsNextFault, IsNextHead, AfterRead, KeepsNames, left_of};
+ghost use Rattle.zknow_merge.specs.Sources.{IsLastHead, IsWanting, IsNewSource, IsReadFrom, IsReadStep, IsNextFault, IsNextHead, AfterRead, KeepsNames, left_of};
 
 use crate::front::{FrontError, LONGEST, take_front};
 use crate::head::{Head, head_of, is_below};
@@ -59,7 +59,8 @@ fn is_above(last: &Option<Head>, head: &Head) -> bool
 impl Source {
     /// Returns the source of an input of which nothing has come.
     pub(crate) fn new(alloc: Global) -> Source
-        ensures { IsReadFrom [] no_input result }
+        ensures read { IsReadFrom [] no_input result }
+        ensures empty { IsNewSource result }
     {
         Source {
             octets: BytesMut::new(alloc),
@@ -78,6 +79,8 @@ impl Source {
         ensures ok { OnOk result ((merged : List Fact) (input : Input) → IsReadFrom merged input self.old
             → IsReadFrom merged (fed piece.now input) self.new) }
         ensures names { self.new.names ≡ self.old.names }
+        ensures waiting { self.new.waiting ≡ self.old.waiting }
+        ensures count { self.new.count ≡ self.old.count }
         ensures err { OnErr result ((merged : List Fact) (input : Input) → IsReadFrom merged input self.old
             → IsReadFrom merged input self.new) }
     {
@@ -92,6 +95,8 @@ impl Source {
         ensures ended { (merged : List Fact) (input : Input) → IsReadFrom merged input self.old
             → IsReadFrom merged (at_end input) self.new }
         ensures names { self.new.names ≡ self.old.names }
+        ensures waiting { self.new.waiting ≡ self.old.waiting }
+        ensures count { self.new.count ≡ self.old.count }
     {
         self.ended = true;
     }
@@ -110,6 +115,9 @@ impl Source {
         ensures step { IsReadStep self.old result self.new }
         ensures names { KeepsNames self.old self.new }
         ensures further { result ≡ Ok Read.Element → left_of self.new < left_of self.old }
+        ensures first { result ≡ Ok Read.Element → self.old.names ≡ None → self.new.count ≡ 1 }
+        ensures next { result ≡ Ok Read.Element → self.old.names ≢ None → self.new.count ≡ self.old.count + 1 }
+        ensures still { result ≢ Ok Read.Element → self.new.count ≡ self.old.count }
     {
         if !self.ended && self.is_short() {
             return Ok(Read::Need);
@@ -134,6 +142,8 @@ impl Source {
         ensures step { IsReadStep self.old result self.new }
         ensures names { KeepsNames self.old self.new }
         ensures further { result ≡ Ok Read.Element → left_of self.new < left_of self.old }
+        ensures first { result ≡ Ok Read.Element → self.new.count ≡ 1 }
+        ensures still { result ≢ Ok Read.Element → self.new.count ≡ self.old.count }
     {
         match take_front::<FileNames>(alloc, self.octets.as_slice()) {
             Ok((_, element)) => {
@@ -155,6 +165,8 @@ impl Source {
         ensures step { IsReadStep self.old result self.new }
         ensures names { KeepsNames self.old self.new }
         ensures further { result ≡ Ok Read.Element → left_of self.new < left_of self.old }
+        ensures next { result ≡ Ok Read.Element → self.new.count ≡ self.old.count + 1 }
+        ensures still { result ≢ Ok Read.Element → self.new.count ≡ self.old.count }
     {
         if let Some(head) = plain_head(alloc, &self.octets)? {
             return self.take_head(head);
@@ -170,6 +182,8 @@ impl Source {
         ensures step { IsReadStep self.old result self.new }
         ensures names { KeepsNames self.old self.new }
         ensures further { result ≡ Ok Read.Element → left_of self.new < left_of self.old }
+        ensures next { result ≡ Ok Read.Element → self.new.count ≡ self.old.count + 1 }
+        ensures still { result ≢ Ok Read.Element → self.new.count ≡ self.old.count }
     {
         match take_front::<Fact>(alloc, self.octets.as_slice()) {
             Ok((fact, element)) => {
@@ -189,6 +203,8 @@ impl Source {
         ensures step { IsReadStep self.old result self.new }
         ensures names { KeepsNames self.old self.new }
         ensures further { result ≡ Ok Read.Element → left_of self.new < left_of self.old }
+        ensures next { result ≡ Ok Read.Element → self.new.count ≡ self.old.count + 1 }
+        ensures still { result ≢ Ok Read.Element → self.new.count ≡ self.old.count }
     {
         if !is_above(&self.last, &head) {
             return Ok(Read::Fault(LoadError::NotCanonical { at: self.count }));
@@ -209,6 +225,7 @@ impl Source {
         ensures ok { IfOk result (λ r. (merged : List Fact) (input : Input) → IsReadFrom merged input self.old
             → IsNextFault input self.old.count error → AfterRead merged input r self.new) }
         ensures names { self.new.names ≡ self.old.names }
+        ensures count { self.new.count ≡ self.old.count }
         ensures further { result ≢ Ok Read.Element }
         ensures err { OnErr result (self.new ≡ self.old) }
     {

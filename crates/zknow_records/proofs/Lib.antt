@@ -1,1 +1,2 @@
+pub mod PartTheory
 pub mod Taking

@@ -1,10 +1,15 @@
 -- Files by their paths: what is left of one that is read, and which were made.
-use Rattle.std.specs.Prelude.{◌≡◌, ◌⊎◌, ℕ, List, [], ◌∷◌, ◌++◌, Option, Some, None, Result, Ok, Err, IfSome}
+use Rattle.std.specs.Prelude.{◌≡◌, ◌⊎◌, ℕ, List, [], ◌∷◌, ◌++◌, drop, Option, Some, None, Result, Ok, Err, IfSome}
+use Rattle.std.specs.Option.{option_map}
 
 -- what is left of a file that opens at its first read: of the open file, or of the file at its path
 abbrev pub opened_left : {A : Type 0} → (A → Option (List ℕ)) → Option (List ℕ) → Option A → Option (List ℕ)
 opened_left remaining octets (Some file) = remaining file
 opened_left remaining octets None = octets
+
+-- what is left of the octets of a file, if they are known, behind this many of them
+abbrev pub left_from : ℕ → Option (List ℕ) → Option (List ℕ)
+left_from offset octets = option_map (drop offset) octets
 
 -- ---- files that are made
 

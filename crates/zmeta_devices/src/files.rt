@@ -1,12 +1,12 @@
 //! Files by their paths. A file opens at its first read, so a file that cannot be opened is a file that cannot be
 //! read. A file is made by one call, with all its octets, or from a draft. A log is written while things happen.
 ghost use Rattle.std.specs.Prelude.{◌≡◌, ℕ, List, Option, None, false, IfOk};
-ghost use Rattle.zmeta_devices.specs.Files.{opened_left, MadeFile, MakeResult, IsDraft, KeepResult};
+ghost use Rattle.zmeta_devices.specs.Files.{opened_left, left_from, MadeFile, MakeResult, IsDraft, KeepResult};
 
 use crate::input::Input;
 use std::alloc::{AllocError, Global};
 use std::fs::File;
-use std::io::{ErrorKind, Read, Write};
+use std::io::{ErrorKind, Read, Seek, SeekFrom, Write};
 use std::{fs, io};
 
 /// The files of a system, by their paths.
@@ -31,6 +31,14 @@ pub trait Folder {
     /// Opens the file at a path for reading, at its first octet.
     fn open(&self, path: &str) -> io::Result<Self::File>
         ensures { IfOk result (λ file. Self.File.remaining file ≡ octets self.now path.now) };
+
+    /// Opens the file at a path for reading, behind this many of its octets; at its end if it has fewer. Fails if the
+    /// file can only be read from its first octet on, as a pipe.
+    fn open_at(&self, path: &str, offset: u64) -> io::Result<Self::File>
+        ensures { IfOk result (λ file. Self.File.remaining file ≡ left_from offset (octets self.now path.now)) };
+
+    /// Whether the file at a path may be read more than once, and from any octet on.
+    fn is_seekable(&self, path: &str) -> bool;
 
     /// Makes a file at a path with these contents. A file that is there already is replaced. If that fails, no file is
     /// made, or one that holds a front of the contents.
@@ -90,6 +98,20 @@ impl Folder for HostRuntime {
 
     fn open(&self, path: &str) -> io::Result<File> {
         File::open(self, path)
+    }
+
+    fn open_at(&self, path: &str, offset: u64) -> io::Result<File> {
+        let mut file = File::open(self, path)?;
+        file.seek(SeekFrom::Start(offset))?;
+        Ok(file)
+    }
+
+    /// A regular file is, and nothing else.
+    fn is_seekable(&self, path: &str) -> bool {
+        match fs::metadata(self, path) {
+            Ok(found) => found.is_file(),
+            Err(_) => false,
+        }
     }
 
     /// A regular file is replaced once the new one is whole, and keeps its permissions. What is no regular file, as a

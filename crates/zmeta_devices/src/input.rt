@@ -67,6 +67,27 @@ impl<'a, R: Read> Input<'a, R> {
         answer
     }
 
+    /// Reads octets of the stream until there are this many or more, or it ends, in at most 1,000,000 reads of at most
+    /// 4,096 octets.
+    ///
+    /// `Read` with the stream's path if a read fails, or if that many reads find neither. The octets read are lost, and
+    /// `has_failed` is set. `Memory` if no memory is found; `has_failed` is unchanged.
+    pub fn read_front(&mut self, alloc: Global, least: usize) -> Result<Vec<u8>, Fault<'a>>
+        ensures taken { IfOk result (λ v. Consumes (R.remaining self.old.reader) (R.remaining self.new.reader)
+            v.items) }
+        ensures end { IfOk result (λ v. vec_len v < least → IsAtEnd (R.remaining self.new.reader)) }
+        ensures no_failure { OnOk result (self.new.has_failed ≡ self.old.has_failed) }
+        ensures path { self.new.path ≡ self.old.path }
+        ensures err { IfErr result (λ f. ((f ≡ Fault.Read self.old.path) × (self.new.has_failed ≡ true))
+            ⊎ (f ≡ Fault.Memory)) }
+    {
+        let answer = read_until(alloc, &mut self.reader, self.path, least);
+        if matches!(answer, Err(Fault::Read(_))) {
+            self.has_failed = true;
+        }
+        answer
+    }
+
     /// Reads octets into the front of the piece, and returns how many came: 0 only at the end of the stream, or if the
     /// piece has no room.
     ///
@@ -113,6 +134,33 @@ fn read_pieces<'a, R: Read>(
             return Ok(octets);
         }
         octets.extend_from_slice(&piece[..count])?;
+    }
+    Err(Fault::Read(path))
+}
+
+/// Reads octets of a reader until there are this many or more, or it ends. `Read(path)` if a read fails, or if `READS`
+/// reads find neither.
+fn read_until<'a, R: Read>(
+    alloc: Global,
+    reader: &mut R,
+    path: &'a str,
+    least: usize,
+) -> Result<Vec<u8>, Fault<'a>>
+    ensures taken { IfOk result (λ v. Consumes (R.remaining reader.old) (R.remaining reader.new) v.items) }
+    ensures end { IfOk result (λ v. vec_len v < least → IsAtEnd (R.remaining reader.new)) }
+    ensures err { IfErr result (λ f. (f ≡ Fault.Read path.entry) ⊎ (f ≡ Fault.Memory)) }
+{
+    let mut octets = Vec::new(alloc);
+    let mut part = [0u8; PIECE];
+    for _ in 0..READS {
+        if octets.len() >= least {
+            return Ok(octets);
+        }
+        match read_piece(reader, &mut part) {
+            None => return Err(Fault::Read(path)),
+            Some(0) => return Ok(octets),
+            Some(size) => octets.extend_from_slice(&part[..size])?,
+        }
     }
     Err(Fault::Read(path))
 }

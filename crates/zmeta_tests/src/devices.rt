@@ -154,6 +154,22 @@ impl<'a> Folder for Shelf<'a> {
         Err(io::Error::from(ErrorKind::NotFound))
     }
 
+    fn open_at(&self, path: &str, offset: u64) -> io::Result<Broken<'a>> {
+        let mut file = self.open(path)?;
+        for _ in 0..offset {
+            match file.octets {
+                [_, rest @ ..] => file.octets = rest,
+                [] => return Ok(file),
+            }
+        }
+        Ok(file)
+    }
+
+    /// All but `pipe`.
+    fn is_seekable(&self, path: &str) -> bool {
+        path != "pipe"
+    }
+
     /// At `full` only three octets find room, and nothing is made at `none`.
     #[tactic(auto, using(crate::proofs::StoredFiles::front_made))]
     fn make(&mut self, path: &str, contents: &[u8]) -> io::Result<()> {

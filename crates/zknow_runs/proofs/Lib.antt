@@ -1,0 +1,10 @@
+pub mod BeginTheory
+pub mod GivenTheory
+pub mod OpenTheory
+pub mod PlacedTheory
+pub mod RowTheory
+pub mod RunTheory
+pub mod SourceTheory
+pub mod StepTheory
+pub mod TieTheory
+pub mod UnionTheory
