@@ -23,6 +23,7 @@ from concurrent.futures import ThreadPoolExecutor
 import changes
 import charsets
 import completions
+import extracting
 import hosts
 import html_pages
 import json_lines
@@ -197,6 +198,8 @@ def main():
         print(f"program: changes of {changes.CASES} pairs of saved files")
         faults += merging.faults(ZMETA)
         print(f"program: {2 * merging.CASES} merges of saved files")
+        faults += extracting.faults(ZMETA)
+        print(f"program: records of {2 * extracting.CASES} sets of saved files")
         faults += large.faults(ZMETA, room)
         print(f"program: large input of {len(large.COMMANDS)} commands")
         faults += [it for it in (fault_of_view(room, *it) for it in views.files()) if it]

@@ -164,11 +164,11 @@ def damaged_merges(zmeta, room):
             write(at("older"), OLDER)
 
 
-def run_measured(words):
+def run_measured(words, to=os.devnull):
     """The status of a program, and the most KB that it had, as far as the system told while it ran. What the system
-    tells at its end counts the memory of the program that started it, too."""
+    tells at its end counts the memory of the program that started it, too. What it prints goes into a file."""
     most = 0
-    with subprocess.Popen(words) as child:
+    with open(to, "wb") as printed, subprocess.Popen(words, stdout=printed) as child:
         while child.poll() is None:
             try:
                 with open(f"/proc/{child.pid}/status", encoding="ascii") as told:

@@ -40,7 +40,7 @@ load_refused (Some file) octets path e f r is of whole fault =
 
 -- ---- all files
 
-until : (others : List (Bor (List ℕ))) (i : ℕ) (p : Bor (List ℕ)) → i < length others → p ≡ get_or others i p
+pub until : (others : List (Bor (List ℕ))) (i : ℕ) (p : Bor (List ℕ)) → i < length others → p ≡ get_or others i p
     → take (i + 1) others ≡ take i others ++ p ∷ []
 until others i p lt is = take_more others i p lt ∙ ap (λ z. take i others ++ z ∷ []) (sym is)
 
@@ -55,7 +55,7 @@ joined_more octets names before others i p old new lt is joined a =
     append_assoc before (texts_of (take i others)) (p.now ∷ []) ∙ ap (λ z. before ++ z) (sym to) in
     subst (λ z. AreJoined octets names z new) at (more p.now old a.0 joined a.1 a.2 a.3)
 
-split : (others : List (Bor (List ℕ))) (i : ℕ) (p : Bor (List ℕ)) → i < length others → p ≡ get_or others i p
+pub split : (others : List (Bor (List ℕ))) (i : ℕ) (p : Bor (List ℕ)) → i < length others → p ≡ get_or others i p
     → texts_of others ≡ texts_of (take i others) ++ p.now ∷ texts_of (drop (i + 1) others)
 split others i p lt is =
     ap texts_of (sym (take-append-drop (i + 1) others))

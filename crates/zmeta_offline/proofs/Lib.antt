@@ -10,3 +10,13 @@ mod Querying
 mod Changing
 mod NewsTheory
 pub mod SameViewing
+pub mod SavedEach
+pub mod Noting
+pub mod Scanning
+pub mod ScanningAll
+pub mod MarkedSources
+pub mod GivenJoined
+pub mod MarkedTheory
+pub mod Keeping
+pub mod Streaming
+pub mod Writing

@@ -13,7 +13,8 @@ use Rattle.zmeta_offline.specs.Catalogues.{IsOfCatalogues}
 use Rattle.zmeta_offline.specs.Names.{AreAllKnown, IsFirstUnknown}
 use Rattle.zmeta_offline.specs.Join.{IsSavedAt, IsFaultAt, AreJoined, IsRefusedAmong}
 use Rattle.zmeta_offline.specs.New.{IsStatusOfBoth}
-use Rattle.zmeta_offline.specs.Records.{IsChosenSyntax, IsNoOid, left_text, WantedRecords, HasNoCatalogue, RecordsResult}
+use Rattle.zmeta_offline.specs.Records.{IsChosenSyntax, IsNoOid, left_text, WantedRecords, HasNoCatalogue}
+use Rattle.zmeta_offline.specs.Streamed.{StreamedResult}
 
 -- ---- what is new
 
@@ -100,7 +101,7 @@ module _ (octets : List ℕ → Option (List ℕ)) (earlier : List ℕ) (paths :
 abbrev pub RecordsCallResult
     : Option (List ℕ) → WantedRecords → (List ℕ → Option (List ℕ)) → List (List ℕ) → Outputs → Outputs
     → Result Status Fault → Type 0
-RecordsCallResult None e octets paths before after result = RecordsResult e octets paths before after result
+RecordsCallResult None e octets paths before after result = StreamedResult e octets paths before after result
 RecordsCallResult (Some earlier) e octets paths before after result =
     SinceResult octets earlier paths e before after result
 

@@ -1,17 +1,18 @@
 //! The facts of some catalogues alone.
 
-ghost use Rattle.std.specs.Prelude.{◌≡◌, [], IfOk, OnOk};
+ghost use Rattle.std.specs.Prelude.{◌≡◌, [], slice_get, IfOk, OnOk};
 ghost use Rattle.zknow.specs.Facts.{fact_target, AreFacts};
 ghost use Rattle.zmeta_args.specs.Texts.{texts_of};
-ghost use Rattle.zmeta_offline.specs.Catalogues.{is_of_chosen, IsOfCatalogues, CataloguesResult};
+ghost use Rattle.zmeta_offline.specs.Catalogues.{is_chosen, is_of_chosen, IsOfCatalogues, CataloguesResult};
 
 use crate::names::{first_unknown, is_picked};
+use bytes::Bytes;
 use std::alloc::{AllocError, Global};
 use zknow::{Fact, Knowledge, Names};
 use zmeta_devices::fault::Fault;
 
 /// Returns the number of the target that a fact is about.
-fn target_of(fact: &Fact) -> u32
+pub(crate) fn target_of(fact: &Fact) -> u32
     ensures { result ≡ fact_target fact.now }
 {
     match fact {
@@ -22,14 +23,21 @@ fn target_of(fact: &Fact) -> u32
     }
 }
 
+/// Returns whether the catalogue of this target has a name among `only`, or `only` is empty.
+pub(crate) fn is_chosen(only: &[&str], names: &[Bytes], target: u32) -> bool
+    ensures { result ≡ is_chosen (texts_of only.now) (slice_get names.now target) }
+{
+    match names.get(target as usize) {
+        Some(name) => is_picked(only, name.as_slice()),
+        None => only.is_empty(),
+    }
+}
+
 /// Returns whether the fact is about a catalogue whose name is among `only`, or `only` is empty.
 fn is_of_chosen(only: &[&str], names: &Names, fact: &Fact) -> bool
     ensures { result ≡ is_of_chosen (texts_of only.now) names.now fact.now }
 {
-    match names.as_slice().get(target_of(fact) as usize) {
-        Some(name) => is_picked(only, name.as_slice()),
-        None => only.is_empty(),
-    }
+    is_chosen(only, names.as_slice(), target_of(fact))
 }
 
 /// Adds those of the facts that are about the chosen catalogues.

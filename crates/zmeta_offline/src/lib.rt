@@ -11,6 +11,8 @@ pub mod new;
 mod news;
 pub mod pqf;
 pub mod records;
+mod rows;
 pub mod saved;
+mod scanned;
 pub mod show;
 pub mod view;

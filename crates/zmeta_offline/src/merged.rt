@@ -156,7 +156,7 @@ fn merge_streams<'a, R: Read, W: Write>(
 }
 
 /// Returns a piece of `PIECE` octets.
-fn piece_of(alloc: Global) -> Result<Vec<u8>, AllocError>
+pub(crate) fn piece_of(alloc: Global) -> Result<Vec<u8>, AllocError>
     ensures { IfOk result (λ piece. 0 < vec_len piece) }
 {
     let mut piece = Vec::new(alloc);

@@ -7,15 +7,19 @@ ghost use Rattle.zknow_records.specs.Records.{records_octets, left_out};
 ghost use Rattle.zmeta_args.specs.Texts.{texts_of};
 ghost use Rattle.zmeta_offline.specs.Records.{SyntaxResult, left_line, left_text, extract, PutRecordsResult, RecordsResult};
 ghost use Rattle.zmeta_offline.specs.News.{RecordsCallResult, AfterRecords};
+ghost use Rattle.zmeta_offline.specs.Streamed.{IsStatusOf, StreamedResult};
 
 use crate::catalogues::facts_of;
 use crate::join::{known_status, load_all};
 use crate::news::news_files;
+use crate::rows::write_rows;
+use crate::scanned::{Marked, scan_files};
 use std::alloc::{AllocError, Global};
 use std::io::Write;
 use zber::{Oid, OidError};
 use zknow::Knowledge;
 use zknow_records::{LeftOut, write_records};
+use zknow_runs::Taking;
 use zmeta_devices::fault::{Fault, Status, end};
 use zmeta_devices::files::Folder;
 use zmeta_devices::output::Output;
@@ -50,6 +54,9 @@ pub struct SavedFiles<'a, 'w> {
 ///
 /// If a file is refused, the syntax is not an object identifier, or no catalogue has a given name, writes the reason on
 /// `errors` and nothing else.
+///
+/// Without an earlier file, files are read twice if all of them can be. If one cannot be read the second time, is not
+/// as it was, or no memory is found then, a front of the octets may have been written before the reason.
 ///
 /// With an earlier file, the records of the chosen catalogues are written that are new or changed since then, and no
 /// others. That file is read first.
@@ -89,9 +96,90 @@ fn write_wanted<'a, 'o: 'a, F: Folder, W: Write, E: Write>(
         (outputs W.contents E.contents output.new errors.new) result }
 {
     match wanted.since {
-        None => records_files(alloc, files, saved, wanted, output, errors),
+        None => {
+            if are_seekable(files, saved) {
+                records_streamed(alloc, files, saved, wanted, output, errors)
+            } else {
+                records_files(alloc, files, saved, wanted, output, errors)
+            }
+        }
         Some(earlier) => news_files(alloc, files, earlier, saved, wanted, output, errors),
     }
+}
+
+/// Whether all files may be read more than once, and from any octet on.
+fn are_seekable<F: Folder>(files: &F, saved: SavedFiles<'_, '_>) -> bool {
+    if !files.is_seekable(saved.first) {
+        return false;
+    }
+    for path in saved.others {
+        if !files.is_seekable(*path) {
+            return false;
+        }
+    }
+    true
+}
+
+/// Returns all paths, in order.
+fn paths_of<'a>(alloc: Global, saved: SavedFiles<'a, '_>) -> Result<Vec<&'a str>, AllocError>
+    ensures { IfOk result (λ paths. texts_of paths.items
+        ≡ saved.entry.first.now ∷ texts_of saved.entry.others.now) }
+{
+    let mut paths = Vec::new(alloc);
+    paths.push(saved.first)?;
+    for path in saved.others {
+        paths.push(*path)?;
+    }
+    Ok(paths)
+}
+
+/// Writes the records of files that may outgrow memory: octets of some of their runs are in memory, and the records of
+/// one position. Reports what was left out, and returns the status.
+///
+/// `Read` and `Memory` can come behind a front of the octets.
+fn records_streamed<'a, 'o: 'a, F: Folder, W: Write, E: Write>(
+    alloc: Global,
+    files: &'a F,
+    saved: SavedFiles<'a, '_>,
+    wanted: Extract<'a, '_>,
+    output: &mut Output<'o, W>,
+    errors: &mut Output<'_, E>,
+) -> Result<Status, Fault<'a>>
+    ensures { StreamedResult (extract wanted.entry) (F.octets files.now)
+        (saved.entry.first.now ∷ texts_of saved.entry.others.now)
+        (outputs W.contents E.contents output.old errors.old)
+        (outputs W.contents E.contents output.new errors.new) result }
+{
+    let syntax = syntax_of(alloc, wanted.syntax)?;
+    let paths = paths_of(alloc, saved)?;
+    let Marked {
+        chosen,
+        runs,
+        failed,
+    } = scan_files(alloc, files, paths.as_slice(), wanted.only)?;
+    let taking = Taking {
+        chosen,
+        syntax,
+        conflicts: wanted.conflicts,
+    };
+    let (last, left) = write_rows(
+        alloc,
+        files,
+        paths.as_slice(),
+        runs.as_slice(),
+        taking,
+        output,
+    )?;
+    let lines = left_lines(alloc, &left)?;
+    put_records(last.as_slice(), lines.as_slice(), output, errors)?;
+    Ok(status_of(failed))
+}
+
+/// Returns the status: `Failed` if a search or an association failed, else `Done`.
+fn status_of(failed: bool) -> Status
+    ensures { IsStatusOf failed result }
+{
+    if failed { Status::Failed } else { Status::Done }
 }
 
 /// Writes the records, reports what was left out, and returns the status.

@@ -1,0 +1,118 @@
+-- What is read of saved files where their records stand, and what is written of the records.
+use Rattle.std.specs.Prelude.{◌≡◌, ◌⊎◌, ℕ, List, [], ◌++◌, slice_index_or, Contains, Option, IfSome, Result, Ok, Err, MatchResult, Vec, ⊤}
+use Rattle.std.specs.List.{AllByRecursion}
+use Rattle.zknow.specs.declared.fact.Fact.{Fact}
+use Rattle.zknow_records.specs.declared.left_out.LeftOut.{LeftOut}
+use Rattle.zknow_runs.specs.RowLaws.{AreRowsFrontOf}
+use Rattle.zknow_runs.specs.Rows.{StandAt, IsTaken, IsWantedOf, Sources, AreRunsIn, HoldsOf, AreRowsOf}
+use Rattle.zknow_runs.specs.declared.rows.Rows.{Rows}
+use Rattle.zknow_runs.specs.declared.rows.Taking.{Taking}
+use Rattle.zknow_runs.specs.declared.rows.Wanted.{Wanted}
+use Rattle.zknow_runs.specs.declared.run.Run.{Run}
+use Rattle.zmeta_args.specs.Texts.{texts_of}
+use Rattle.zmeta_devices.specs.Devices.{Device, IsUnchanged, HasGained, HasStopped, PutFailure}
+use Rattle.zmeta_devices.specs.declared.fault.Fault.{Fault}
+use Rattle.zmeta_devices.specs.declared.fault.Fault.TheVariants.{Read, Write, Memory}
+use Rattle.zmeta_offline.specs.Marked.{file_at}
+use Rattle.zmeta_offline.specs.declared.rows.Reader.{Reader}
+use Rattle.zmeta_offline.specs.declared.rows.Window.{Window}
+
+-- ---- what is kept of files
+
+-- the octets of the files are those of the files at these paths
+abbrev pub AreFilesAt : (List ℕ → Option (List ℕ)) → List (List ℕ) → Sources → Type 0
+AreFilesAt octets paths s = (number : ℕ) → s.files number ≡ file_at octets paths number
+
+-- the path of the file of this number
+abbrev pub path_at : List (List ℕ) → ℕ → List ℕ
+path_at paths file = slice_index_or paths file []
+
+-- the octets of the window stand where it says
+abbrev pub IsWindow : (List ℕ → Option (List ℕ)) → List (List ℕ) → Window → Type 0
+IsWindow octets paths w = StandAt (octets (path_at paths w.file)) w.begin w.octets.items
+
+-- so do those of all windows of the reader, which is of these paths
+pub record IsReader (octets : List ℕ → Option (List ℕ)) (paths : List (List ℕ)) (r : Reader) : Type 0 where
+  pub of : texts_of r.paths.now ≡ paths
+  pub windows : AllByRecursion (IsWindow octets paths) r.windows.items
+
+-- the octets stand where some are wanted
+abbrev pub IsKept : Reader → Wanted → List ℕ → Type 0
+IsKept r w kept = (octets : List ℕ → Option (List ℕ)) (paths : List (List ℕ)) → IsReader octets paths r
+    → StandAt (octets (path_at paths w.file)) w.begin kept
+
+-- why a file is not read: it cannot be read, or is not as it was, or no memory was found
+abbrev pub IsReadFault : List ℕ → Fault → Type 0
+IsReadFault path (Read failed) = failed.now ≡ path
+IsReadFault path Memory = ⊤
+IsReadFault path _ = ⊥
+
+-- the same of one of the files at these paths
+abbrev pub IsReadFaultAmong : List (List ℕ) → Fault → Type 0
+IsReadFaultAmong paths (Read failed) = Contains paths failed.now
+IsReadFaultAmong paths Memory = ⊤
+IsReadFaultAmong paths _ = ⊥
+
+-- ---- steps
+
+-- octets are wanted of the run that is read next
+abbrev pub IsNext : Rows → Wanted → Type 0
+IsNext rows w = IfSome rows.next (λ n. IsWantedOf n w)
+
+-- the machine was given octets that stand where some were wanted, and the windows of the reader stand
+pub record HasRead (octets : List ℕ → Option (List ℕ)) (paths : List (List ℕ)) (w : Wanted) (old : Reader)
+    (before : Rows) (new : Reader) (after : Rows) : Type 0 where
+  pub reader : IsReader octets paths old → IsReader octets paths new
+  pub holds : IsReader octets paths old → IsNext before w → (s : Sources) → AreFilesAt octets paths s → (t : Taking)
+      (text : List ℕ) → HoldsOf s t text before → HoldsOf s t text after
+
+-- some of the machine's octets were written
+pub record HasPut (old new : Device) (before after : Rows) : Type 0 where
+  pub more : List ℕ
+  pub gained : HasGained old new more
+  pub holds : (s : Sources) (t : Taking) (text : List ℕ) → HoldsOf s t text before → HoldsOf s t (text ++ more) after
+
+-- the stream failed at some of the machine's octets, which were handed out
+pub record HasNotPut (old new : Device) (before after : Rows) (f : Fault) : Type 0 where
+  pub more : List ℕ
+  pub failed : PutFailure old new more f
+  pub holds : (s : Sources) (t : Taking) (text : List ℕ) → HoldsOf s t text before → HoldsOf s t (text ++ more) after
+
+-- some octets were written, or the stream failed
+abbrev pub PutPieceResult : Device → Device → Rows → Rows → Result (Unit {0}) Fault → Type 0
+PutPieceResult old new before after result =
+    MatchResult result (λ _. HasPut old new before after) (HasNotPut old new before after)
+
+-- ---- the second pass
+
+-- the whole text was written, but for these octets
+pub record IsWritten (t : Taking) (old new : Device) (last : List ℕ) (left : LeftOut) (s : Sources) : Type 0 where
+  pub text : List ℕ
+  pub gained : HasGained old new text
+  pub is : AreRowsOf s t (text ++ last) left
+
+-- a front of the text was written
+pub record IsCutOff (t : Taking) (old new : Device) (s : Sources) : Type 0 where
+  pub text : List ℕ
+  pub gained : HasGained old new text
+  pub is : AreRowsFrontOf s t text
+
+-- the stream failed after a front of the text
+pub record IsStopped (t : Taking) (old new : Device) (s : Sources) : Type 0 where
+  pub text : List ℕ
+  pub stopped : HasStopped old new text
+  pub is : AreRowsFrontOf s t text
+
+module _ (octets : List ℕ → Option (List ℕ)) (paths : List (List ℕ)) (runs : List Run) (t : Taking) where
+  -- so it is of the files at these paths, if the runs have all their records that are taken
+  abbrev pub IsOfRuns : (Sources → Type 0) → Type 0
+  IsOfRuns P = (s : Sources) → AreFilesAt octets paths s → AreRunsIn s runs
+      → ((f : Fact) → Contains s.known f → IsTaken t.chosen f) → P s
+
+  -- all was written, but for the last octets, or why not
+  abbrev pub WriteRowsResult : {A : Type 0} → Device → Device → Result (Vec ℕ A × LeftOut) Fault → Type 0
+  WriteRowsResult old new (Ok r) = IsOfRuns (IsWritten t old new r.0.items r.1)
+  WriteRowsResult old new (Err (Read failed)) = Contains paths failed.now × IsOfRuns (IsCutOff t old new)
+  WriteRowsResult old new (Err (Write failed)) = (failed.now ≡ old.path) × IsOfRuns (IsStopped t old new)
+  WriteRowsResult old new (Err Memory) = IsUnchanged old new ⊎ IsOfRuns (IsCutOff t old new)
+  WriteRowsResult old new (Err _) = ⊥

@@ -1,0 +1,384 @@
+//! Where the records of saved files stand: the first pass of `records` over files that outgrow memory.
+ghost use Rattle.std.specs.Prelude.{◌≡◌, ◌∷◌, ◌++◌, ◌↔◌, ◌<◌, ℕ, List, [], Option, Some, None, false, length, IsTrue, IfOk, IfErr, OnOk};
+ghost use Rattle.zknow.specs.declared.fact.Fact.{Fact};
+ghost use Rattle.zknow.specs.Encodings.{encoding};
+ghost use Rattle.zknow.specs.Saved.Saved.{IsWithinLimits};
+ghost use Rattle.zknow.specs.Saved.SavedFacts.{saved_names};
+ghost use Rattle.zknow_merge.specs.Scans.{Found, IsPlaceOf};
+ghost use Rattle.zmeta_args.specs.Texts.{texts_of};
+ghost use Rattle.zmeta_devices.specs.Devices.{input_device};
+ghost use Rattle.zmeta_offline.specs.Join.{IsFaultAt, IsRefusedAmong};
+ghost use Rattle.zmeta_offline.specs.Marked.{AreChosen, ScanFilesResult};
+ghost use Rattle.zmeta_offline.specs.Scanned.{IsScanning, AfterReached, AreMarks, IsMarkedFile, IsFirst, IsBehindNames, IsRefusedBehind, IsScannedTo};
+
+use crate::merged::piece_of;
+use crate::names::{first_unknown, is_picked};
+use bytes::Bytes;
+use std::alloc::{AllocError, Global};
+use std::io::Read;
+use zknow::{Names, load};
+use zknow_merge::{FactKind, FactPlace, Scan, ScanStep};
+use zknow_runs::{Chosen, Run, RunList};
+use zmeta_devices::fault::Fault;
+use zmeta_devices::files::{Folder, file_at};
+use zmeta_devices::input::Input;
+
+/// The names of the first file.
+#[derive(Drop)]
+struct First {
+    /// Their element.
+    element: Vec<u8>,
+    names: Names,
+    /// Whose records are taken.
+    chosen: Chosen,
+}
+
+/// What the files that were scanned have of chosen catalogues.
+#[derive(Drop)]
+struct Marks {
+    /// The runs of their records.
+    runs: RunList,
+    /// Whether a search or an association of one failed.
+    failed: bool,
+}
+
+/// What was found in the files that were scanned.
+#[derive(Drop)]
+struct Scanned {
+    first: First,
+    marks: Marks,
+}
+
+/// What files have of chosen catalogues.
+#[derive(Drop)]
+pub(crate) struct Marked {
+    /// Whose records are taken.
+    pub(crate) chosen: Chosen,
+    /// Where their records stand.
+    pub(crate) runs: Vec<Run>,
+    /// Whether a search or an association of one failed.
+    pub(crate) failed: bool,
+}
+
+/// What a scan came to.
+#[derive(Clone, Copy, Debug, PartialEq, Eq, Drop)]
+enum Reached {
+    Names,
+    Fact(FactPlace),
+    /// The end of the file.
+    End,
+}
+
+/// Scans the files at these paths, one after the other, for what the catalogues of the names `only` have. If there are
+/// no names, for what all have.
+///
+/// If a file is refused, or has other names than those before it, returns the reason. `NoCatalogue` gives the first
+/// name that no catalogue has.
+pub(crate) fn scan_files<'a, F: Folder>(
+    alloc: Global,
+    files: &F,
+    paths: &[&'a str],
+    only: &[&'a str],
+) -> Result<Marked, Fault<'a>>
+    requires { 0 < length paths.now }
+    ensures { ScanFilesResult (F.octets files.now) (texts_of paths.now) (texts_of only.now) result }
+{
+    let mut piece = piece_of(alloc)?;
+    let Scanned { first, mut marks } = scan_first(
+        alloc,
+        files,
+        paths[0],
+        only,
+        piece.as_mut_slice(),
+    )?;
+    let others = &paths[1..];
+    scan_others(
+        alloc,
+        files,
+        others,
+        piece.as_mut_slice(),
+        &first,
+        &mut marks,
+    )?;
+    marked_of(only, first, marks)
+}
+
+/// Returns what was found in all files, or the first of the names that no catalogue has.
+fn marked_of<'a>(only: &[&'a str], first: First, marks: Marks) -> Result<Marked, Fault<'a>>
+    ensures { (octets : List ℕ → Option (List ℕ)) (path : List ℕ) (paths : List (List ℕ))
+        → IsScannedTo octets (texts_of only.now) (path ∷ paths) first marks
+        → ScanFilesResult octets (path ∷ paths) (texts_of only.now) result }
+{
+    match first_unknown(only, first.names.as_slice()) {
+        Some(name) => Err(Fault::NoCatalogue(name)),
+        None => {
+            let First { chosen, .. } = first;
+            let Marks { runs, failed } = marks;
+            Ok(Marked {
+                chosen,
+                runs: runs.finish()?,
+                failed,
+            })
+        }
+    }
+}
+
+/// Scans the first file, at this path.
+fn scan_first<'a, F: Folder>(
+    alloc: Global,
+    files: &F,
+    path: &'a str,
+    only: &[&str],
+    piece: &mut [u8],
+) -> Result<Scanned, Fault<'a>>
+    requires { 0 < length piece.old }
+    ensures ok { IfOk result (λ s. IsScannedTo (F.octets files.now) (texts_of only.now) (path.entry.now ∷ [])
+        s.first s.marks) }
+    ensures err { IfErr result (IsFaultAt (F.octets files.now) path.entry.now) }
+    ensures room { length piece.new ≡ length piece.old }
+{
+    let mut file = file_at(files, path);
+    let mut scan = Scan::new(alloc);
+    read_names(&mut file, piece, &mut scan)?;
+    let first = first_of(alloc, &scan, only)?;
+    let mut marks = Marks {
+        runs: RunList::new(alloc),
+        failed: false,
+    };
+    mark_facts(&mut file, piece, &mut scan, 0, &first.chosen, &mut marks)?;
+    Ok(Scanned { first, marks })
+}
+
+/// Scans the files at these paths, behind the first file. Each must have the names of that file.
+fn scan_others<'a, F: Folder>(
+    alloc: Global,
+    files: &F,
+    others: &[&'a str],
+    piece: &mut [u8],
+    first: &First,
+    marks: &mut Marks,
+) -> Result<(), Fault<'a>>
+    requires { 0 < length piece.old }
+    ensures ok { OnOk result ((only : List (List ℕ)) (path : List ℕ)
+        → IsScannedTo (F.octets files.now) only (path ∷ []) first.now marks.old
+        → IsScannedTo (F.octets files.now) only (path ∷ texts_of others.now) first.now marks.new) }
+    ensures err { IfErr result (λ f. (only : List (List ℕ)) (path : List ℕ)
+        → IsScannedTo (F.octets files.now) only (path ∷ []) first.now marks.old
+        → IsRefusedAmong (F.octets files.now) (path ∷ texts_of others.now) f) }
+{
+    let mut number = 0;
+    for path in others {
+        if number == u32::MAX {
+            return Err(Fault::Memory);
+        }
+        number += 1;
+        scan_other(alloc, files, *path, number, piece, first, marks)?;
+    }
+    Ok(())
+}
+
+/// Scans the file of this number, at this path. It must have the names of the first file.
+fn scan_other<'a, F: Folder>(
+    alloc: Global,
+    files: &F,
+    path: &'a str,
+    number: u32,
+    piece: &mut [u8],
+    first: &First,
+    marks: &mut Marks,
+) -> Result<(), Fault<'a>>
+    requires { 0 < length piece.old }
+    ensures ok { OnOk result ((only paths : List (List ℕ)) → number ≡ length paths
+        → IsScannedTo (F.octets files.now) only paths first.now marks.old
+        → IsScannedTo (F.octets files.now) only (paths ++ path.entry.now ∷ []) first.now marks.new) }
+    ensures err { IfErr result (λ f. (only paths : List (List ℕ)) → number ≡ length paths
+        → IsScannedTo (F.octets files.now) only paths first.now marks.old
+        → IsRefusedBehind (F.octets files.now) first.now.names path.entry.now f) }
+    ensures room { length piece.new ≡ length piece.old }
+{
+    let mut file = file_at(files, path);
+    let mut scan = Scan::new(alloc);
+    read_names(&mut file, piece, &mut scan)?;
+    let same = has_names(&scan, first.element.as_slice());
+    mark_facts(&mut file, piece, &mut scan, number, &first.chosen, marks)?;
+    if same {
+        Ok(())
+    } else {
+        Err(Fault::NamesDiffer)
+    }
+}
+
+/// Reads the names of a file of which nothing was read.
+fn read_names<'a, R: Read>(
+    file: &mut Input<'a, R>,
+    piece: &mut [u8],
+    scan: &mut Scan,
+) -> Result<(), Fault<'a>>
+    requires { 0 < length piece.old }
+    ensures ok { OnOk result ((octets : List ℕ → Option (List ℕ)) (path : List ℕ)
+        → IsScanning octets path (input_device R.remaining file.old) None scan.old
+        → (names : List (List ℕ))
+        × IsScanning octets path (input_device R.remaining file.new) (Some (names, [])) scan.new) }
+    ensures err { IfErr result (λ f. (octets : List ℕ → Option (List ℕ)) (path : List ℕ)
+        → IsScanning octets path (input_device R.remaining file.old) None scan.old → IsFaultAt octets path f) }
+    ensures room { length piece.new ≡ length piece.old }
+{
+    match go_on(file, piece, scan)? {
+        Reached::Names => Ok(()),
+        // The names come first.
+        Reached::Fact(_) | Reached::End => Err(Fault::Memory),
+    }
+}
+
+/// Notes what the facts of the file of this number say of chosen catalogues, up to its end.
+fn mark_facts<'a, R: Read>(
+    file: &mut Input<'a, R>,
+    piece: &mut [u8],
+    scan: &mut Scan,
+    number: u32,
+    chosen: &Chosen,
+    marks: &mut Marks,
+) -> Result<(), Fault<'a>>
+    requires { 0 < length piece.old }
+    ensures ok { OnOk result ((octets : List ℕ → Option (List ℕ)) (path : List ℕ) (names own : List (List ℕ))
+        (theirs : List (List Fact)) → number ≡ length theirs
+        → IsScanning octets path (input_device R.remaining file.old) (Some (own, [])) scan.old
+        → AreMarks chosen.now names theirs own [] marks.old
+        → IsMarkedFile octets path chosen.now names theirs own marks.new) }
+    ensures err { IfErr result (λ f. (octets : List ℕ → Option (List ℕ)) (path : List ℕ) (own : List (List ℕ))
+        → IsScanning octets path (input_device R.remaining file.old) (Some (own, [])) scan.old
+        → IsFaultAt octets path f) }
+    ensures room { length piece.new ≡ length piece.old }
+{
+    for _ in 0..u64::MAX {
+        match go_on(file, piece, scan)? {
+            // The names come once.
+            Reached::Names => return Err(Fault::Memory),
+            Reached::Fact(place) => marks.note(chosen, number, place)?,
+            Reached::End => return Ok(()),
+        }
+    }
+    Err(Fault::Memory)
+}
+
+/// Goes on to the next element of a file, or to its end.
+fn go_on<'a, R: Read>(
+    file: &mut Input<'a, R>,
+    piece: &mut [u8],
+    scan: &mut Scan,
+) -> Result<Reached, Fault<'a>>
+    requires { 0 < length piece.old }
+    ensures ok { IfOk result (λ reached. (octets : List ℕ → Option (List ℕ)) (path : List ℕ) (found : Found)
+        → IsScanning octets path (input_device R.remaining file.old) found scan.old
+        → AfterReached octets path (input_device R.remaining file.new) found reached scan.new) }
+    ensures err { IfErr result (λ f. (octets : List ℕ → Option (List ℕ)) (path : List ℕ) (found : Found)
+        → IsScanning octets path (input_device R.remaining file.old) found scan.old → IsFaultAt octets path f) }
+    ensures room { length piece.new ≡ length piece.old }
+{
+    for _ in 0..u64::MAX {
+        match scan.next()? {
+            ScanStep::Need => feed(file, piece, scan)?,
+            ScanStep::Names => return Ok(Reached::Names),
+            ScanStep::Fact(place) => return Ok(Reached::Fact(place)),
+            ScanStep::Refused(fault) => return Err(Fault::of_load(file.path, fault)),
+            ScanStep::Done => return Ok(Reached::End),
+        }
+    }
+    Err(Fault::Memory)
+}
+
+/// Feeds the next piece of a file to its scan, or its end.
+fn feed<'a, R: Read>(
+    file: &mut Input<'a, R>,
+    piece: &mut [u8],
+    scan: &mut Scan,
+) -> Result<(), Fault<'a>>
+    requires { 0 < length piece.old }
+    ensures ok { OnOk result ((octets : List ℕ → Option (List ℕ)) (path : List ℕ) (found : Found)
+        → (s : IsScanning octets path (input_device R.remaining file.old) found scan.old) → s.input.ended ≡ false
+        → IsScanning octets path (input_device R.remaining file.new) found scan.new) }
+    ensures err { IfErr result (λ f. (octets : List ℕ → Option (List ℕ)) (path : List ℕ) (found : Found)
+        → IsScanning octets path (input_device R.remaining file.old) found scan.old → IsFaultAt octets path f) }
+    ensures path { file.new.path ≡ file.old.path }
+    ensures room { length piece.new ≡ length piece.old }
+{
+    let count = file.read_some(piece)?;
+    if count == 0 {
+        scan.end();
+        return Ok(());
+    }
+    Ok(scan.feed(&piece[..count])?)
+}
+
+/// Whether the names that a scan has read have this element.
+fn has_names(scan: &Scan, element: &[u8]) -> bool
+    ensures { (names own : List (List ℕ)) → IsBehindNames own scan.now → IsWithinLimits saved_names names
+        → element.now ≡ encoding saved_names names → IsTrue result ↔ (names ≡ own) }
+{
+    match scan.names() {
+        None => false,
+        Some(own) => own == element,
+    }
+}
+
+/// Returns the names that the scan of the first file has read, and whose records are taken.
+fn first_of(alloc: Global, scan: &Scan, only: &[&str]) -> Result<First, AllocError>
+    ensures { IfOk result (λ first. (names : List (List ℕ)) → IsBehindNames names scan.now
+        → (first.names ≡ names) × IsFirst (texts_of only.now) first) }
+{
+    // The names were read.
+    let Some(element) = scan.names() else {
+        return Err(AllocError);
+    };
+    let Ok((_, names)) = load(alloc, element) else {
+        return Err(AllocError);
+    };
+    let chosen = chosen_of(alloc, only, names.as_slice())?;
+    Ok(First {
+        element: Vec::from_slice(alloc, element)?,
+        names,
+        chosen,
+    })
+}
+
+/// Returns whose records are taken: those of the catalogues whose names are among `only`, or of all if there are none.
+fn chosen_of(alloc: Global, only: &[&str], names: &[Bytes]) -> Result<Chosen, AllocError>
+    ensures { IfOk result (AreChosen (texts_of only.now) names.now) }
+{
+    let mut targets = Vec::new(alloc);
+    for name in names {
+        targets.push(is_picked(only, name.as_slice()))?;
+    }
+    Ok(Chosen {
+        targets,
+        others: only.is_empty(),
+    })
+}
+
+impl Marks {
+    /// Notes what a fact of the file of this number says of a chosen catalogue: where its record stands, or that a
+    /// search or an association failed.
+    fn note(&mut self, chosen: &Chosen, number: u32, place: FactPlace) -> Result<(), AllocError>
+        ensures { OnOk result ((names own : List (List ℕ)) (theirs : List (List Fact)) (facts : List Fact) (f : Fact)
+            → number ≡ length theirs → IsPlaceOf own facts f place
+            → AreMarks chosen.now names theirs own facts self.old
+            → AreMarks chosen.now names theirs own (facts ++ f ∷ []) self.new) }
+    {
+        if !chosen.is_taken(place.target) {
+            return Ok(());
+        }
+        match place.kind {
+            FactKind::Count | FactKind::Diagnostic => Ok(()),
+            FactKind::Failed => {
+                self.failed = true;
+                Ok(())
+            }
+            FactKind::Record => self.runs.put(Run {
+                position: place.number,
+                file: number,
+                begin: place.begin,
+                end: place.end,
+            }),
+        }
+    }
+}
