@@ -57,7 +57,8 @@ names_octets None = None
 names_octets (Some found) = Some (encoding saved_names found.0)
 
 -- the source has read these names and facts, whose saved file is this front of the input
-pub record HasReadTo (i : Input) (names : List (List ℕ)) (facts : List Fact) (front : List ℕ) (s : Source) : Type 0 where
+pub record HasReadTo (i : Input) (names : List (List ℕ)) (facts : List Fact) (front : List ℕ) (s : Source)
+    : Type 0 where
   pub cut : i.octets ≡ front ++ s.octets.items
   pub ended : i.ended ≡ s.ended
   pub waits : s.waiting ≡ false

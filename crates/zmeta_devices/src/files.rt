@@ -123,7 +123,8 @@ impl Folder for HostRuntime {
         }
     }
 
-    /// The draft is a file beside the path. What is no regular file, as a device, a pipe or a link, is written in place.
+    /// The draft is a file beside the path. What is no regular file, as a device, a pipe or a link, is written in
+    /// place.
     fn draft(&self, path: &str) -> io::Result<FileDraft> {
         match is_replaceable(self, path) {
             true => draft_beside(self, path),
