@@ -1,6 +1,8 @@
 -- A scan reads one element after the other.
 use Rattle.std.proofs.Common.{◌≡◌, ◌≢◌, ◌⊎◌, ◌<◌, ◌≤◌, ◌+◌, ◌-◌, ◌^◌, ℕ, true, false, Bool, List, [], ◌∷◌, ◌++◌, length, Option, Some, None, refl, sym, ap, subst, ◌∙◌, inl, inr, ⊎_elim, arith, append_assoc, length-append}
 use Rattle.std.specs.Prelude.{Result, Ok, Err, IfOk, IfSome, OnOk, OnErr, Vec, min}
+use Rattle.std.specs.List.{last_or}
+use Rattle.std.specs.Option.{option_map}
 use Rattle.std.proofs.lemmas.List.{append-nil}
 use Rattle.zknow.specs.declared.fact.Fact.{Fact}
 use Rattle.zknow.specs.declared.fact.Fact.TheVariants as facts_of
@@ -21,7 +23,7 @@ use Rattle.zknow_merge.specs.declared.source.Source.{Source}
 use Rattle.zknow_merge.specs.Heads.{IsHeadOf}
 use Rattle.zknow_merge.specs.Inputs.{Input, IsFileOf, fed, at_end, no_input}
 use Rattle.zknow_merge.specs.Sources.{IsLastHead, IsElementOption, IsWanting, IsNewSource, HasReadNames, HasReadFacts, IsReadFrom, IsReadStep, KeepsNames}
-use Rattle.zknow_merge.specs.Scans.{Found, names_octets, IsOfFact, HasReadTo, IsNewScan, IsScan, IsScanned, AfterScan, IsReadOn, AfterScanRead, ScanLaws, octets_or_none, last_octets, last_element, IsPlaced}
+use Rattle.zknow_merge.specs.Scans.{Found, names_octets, last_element_of, IsOfFact, HasReadTo, IsNewScan, IsScan, IsScanned, AfterScan, IsReadOn, AfterScanRead, ScanLaws, octets_or_none, last_octets, last_element, IsPlaced}
 use Rattle.zknow_merge.proofs.EndTheory.{done_by}
 use Rattle.zknow_merge.proofs.SourceTheory.{no_names, fed_open, fed_ended, on_ok, on_err}
 
@@ -402,6 +404,27 @@ read_is s t r q is h i found was = subst (λ (x : Read). AfterScanRead i found x
 pub names_are : (s : Scan) (i : Input) (found : Found) → IsScan i found s → (o : Option (List ℕ)) → (s.source.names ≡ None → o ≡ None) → ((octets : List ℕ) → IsElementOption s.source.names octets → o ≡ Some octets) → o ≡ names_octets found
 names_are s i None was o none some = none was.names
 names_are s i (Some found) was o none some = some (encoding saved_names found.0) was.read.named
+
+-- ---- the element of the last fact
+
+last_or_end : (facts : List Fact) (f : Fact) (o : Option Fact) → last_or o (facts ++ f ∷ []) ≡ Some f
+last_or_end [] f o = refl
+last_or_end (x ∷ facts) f o = last_or_end facts f (Some x)
+
+abbrev head_octets : Option Head → Option (List ℕ)
+head_octets last = option_map (λ (h : Head). h.element.items) last
+
+of_last : (facts : List Fact) (last : Option Head) → IsLastHead facts last
+    → head_octets last ≡ option_map (encoding saved_fact) (last_or None facts)
+of_last facts None none = ap (λ (l : List Fact). option_map (encoding saved_fact) (last_or None l)) (sym none)
+of_last facts (Some h) last =
+    ap Some last.3.element
+    ∙ ap (option_map (encoding saved_fact)) (sym (ap (last_or None) last.2 ∙ last_or_end last.0 last.1 None))
+
+pub element_is : (s : Scan) (i : Input) (found : Found) → IsScan i found s → (octets : Option (List ℕ))
+    → octets ≡ option_map (λ (h : Head). h.element.items) s.source.last → octets ≡ last_element_of found
+element_is s i None was octets is = is ∙ ap (option_map (λ (h : Head). h.element.items)) was.last
+element_is s i (Some found) was octets is = is ∙ of_last found.1 s.source.last was.read.last
 
 -- ---- what a scan says of a file
 

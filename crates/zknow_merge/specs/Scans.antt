@@ -1,5 +1,7 @@
 -- A scan of one file: what it has read, and what each step means.
 use Rattle.std.specs.Prelude.{◌≡◌, ◌⊎◌, ◌+◌, ◌<◌, ℕ, true, false, List, [], ◌∷◌, ◌++◌, length, Option, Some, None, Vec, ⊤}
+use Rattle.std.specs.List.{last_or}
+use Rattle.std.specs.Option.{option_map}
 use Rattle.zknow.specs.declared.fact.Fact.{Fact}
 use Rattle.zknow.specs.Encodings.{encoding}
 use Rattle.zknow.specs.Facts.{fact_kind, fact_target, fact_set, fact_number}
@@ -55,6 +57,11 @@ Found = Option (List (List ℕ) × List Fact)
 abbrev pub names_octets : Found → Option (List ℕ)
 names_octets None = None
 names_octets (Some found) = Some (encoding saved_names found.0)
+
+-- the element of the last fact that was read, if one was read
+abbrev pub last_element_of : Found → Option (List ℕ)
+last_element_of None = None
+last_element_of (Some found) = option_map (encoding saved_fact) (last_or None found.1)
 
 -- the source has read these names and facts, whose saved file is this front of the input
 pub record HasReadTo (i : Input) (names : List (List ℕ)) (facts : List Fact) (front : List ℕ) (s : Source)

@@ -4,7 +4,8 @@ ghost use Rattle.std.specs.Option.{option_map};
 ghost use Rattle.zknow_merge.specs.Inputs.{Input, fed, at_end, no_input};
 ghost use Rattle.zknow_merge.specs.declared.scan.FactPlace.{FactPlace};
 ghost use Rattle.zknow_merge.specs.declared.scan.ScanStep.{ScanStep};
-ghost use Rattle.zknow_merge.specs.Scans.{Found, names_octets, kind_number, IsPlaced, IsScan, AfterScan, AfterScanRead, IsReadOn, last_element};
+ghost use Rattle.zknow_merge.specs.Scans.{Found, names_octets, last_element_of, kind_number, IsPlaced, last_element};
+ghost use Rattle.zknow_merge.specs.Scans.{IsScan, AfterScan, AfterScanRead, IsReadOn};
 ghost use Rattle.zknow_merge.specs.Sources.{IsWanting};
 
 use crate::front::LONGEST;
@@ -148,6 +149,17 @@ impl Scan {
         match &self.source.names {
             None => None,
             Some(names) => Some(names.as_slice()),
+        }
+    }
+
+    /// Returns the element of the fact that was read last, `None` before one was read.
+    pub fn element(&self) -> Option<&[u8]>
+        ensures { (i : Input) (found : Found) → IsScan i found self.now
+            → option_map (λ octets. octets.now) result ≡ last_element_of found }
+    {
+        match &self.source.last {
+            None => None,
+            Some(head) => Some(head.element.as_slice()),
         }
     }
 
