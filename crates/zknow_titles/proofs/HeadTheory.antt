@@ -23,7 +23,7 @@ use Rattle.zknow_titles.specs.Titles.{between, view, titles, whole_records, sets
 
 -- ---- the line behind the head
 
-no_octets : (head : List (List ℕ)) → eqb (length (ended head)) 0 ≡ eqb (length head) 0
+pub no_octets : (head : List (List ℕ)) → eqb (length (ended head)) 0 ≡ eqb (length head) 0
 no_octets [] = refl
 no_octets ([] ∷ head) = eqb-suc-zero (length (ended head)) ∙ sym (eqb-suc-zero (length head))
 no_octets ((x ∷ xs) ∷ head) =

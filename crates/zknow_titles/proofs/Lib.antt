@@ -1,7 +1,8 @@
 pub mod ConditionTheory
 pub mod HeadTheory
 pub mod NameTheory
+pub mod PartTheory
 pub mod SafeTexts
 pub mod SafeTheory
 pub mod SafeWholes
-pub mod Widths
+pub mod WidthTheory

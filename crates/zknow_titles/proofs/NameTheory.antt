@@ -11,7 +11,7 @@ use Rattle.zknow_titles.specs.Names.{shown_names, label}
 use Rattle.zknow_titles.specs.Rows.{row_name, name_width, name_column, wider, widths}
 use Rattle.zknow_titles.specs.Titles.{rows_of}
 use Rattle.zknow_titles.proofs.SafeTheory.{label_safe, clipped_safe}
-use Rattle.zknow_titles.proofs.Widths.{clipped_width, padded_width}
+use Rattle.zknow_titles.proofs.WidthTheory.{clipped_width, padded_width}
 
 -- ---- the columns of names, over all rows
 

@@ -181,7 +181,8 @@ none_safe = All-nil IsSafeText
 pub one_safe : {t : List ℕ} → IsSafeText t → All IsSafeText (t ∷ [])
 one_safe {t} s = All-cons IsSafeText t [] s none_safe
 
-pub all_either : (b : Bool) (xs ys : List (List ℕ)) → All IsSafeText xs → All IsSafeText ys → All IsSafeText (cond b xs ys)
+pub all_either : (b : Bool) (xs ys : List (List ℕ)) → All IsSafeText xs → All IsSafeText ys
+    → All IsSafeText (cond b xs ys)
 all_either true xs ys first then = first
 all_either false xs ys first then = then
 

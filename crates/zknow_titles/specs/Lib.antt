@@ -8,6 +8,7 @@ pub mod Heads
 pub mod Laws
 pub mod Lines
 pub mod Names
+pub mod Parts
 pub mod Rows
 pub mod Sutrs
 pub mod Titles

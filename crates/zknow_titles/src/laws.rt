@@ -1,4 +1,5 @@
 //! Laws of the definitions, each the contract of a function that does nothing.
+ghost use Rattle.zknow_titles.specs.Parts.{AllTitlePartLaws, WidthsLaw};
 ghost use Rattle.zknow_titles.specs.Laws.{SafeLaw, SafeRecordsLaw, QuietLaw, QuietRecordsLaw, NamesLaw};
 
 /// The view is safe to print on a terminal, whatever the names, the character sets, the stops and the facts are.
@@ -26,4 +27,14 @@ pub fn quiet_records_law()
 /// row, whatever the names and the facts are.
 pub fn names_law()
     ensures { NamesLaw }
+{}
+
+/// The view is what stands before its rows, and then its rows, in columns of the widths that they need.
+pub fn title_part_laws()
+    ensures { AllTitlePartLaws }
+{}
+
+/// The columns that rows take are those of their parts, the greater of both.
+pub fn widths_law()
+    ensures { WidthsLaw }
 {}

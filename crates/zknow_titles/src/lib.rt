@@ -12,6 +12,7 @@ mod entries;
 mod heads;
 pub mod laws;
 mod names;
+mod parts;
 mod rows;
 mod sutrs;
 mod titles;
@@ -24,5 +25,7 @@ pub use blocks::{
 pub use entries::{Entry, entry_with, opac_of};
 pub use heads::show_stop;
 pub use names::{label_of, name_of, show_names};
+pub use parts::{print_title_head, print_title_rows};
+pub use rows::{Widths, find_widths, wider};
 pub use titles::{print_fields, print_titles};
-pub use wholes::lines_with;
+pub use wholes::{Extent, lines_with};

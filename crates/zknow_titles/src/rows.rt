@@ -6,6 +6,7 @@ ghost use Rattle.zknow_titles.specs.Entries.{texts, entry, opac_of};
 ghost use Rattle.zknow_titles.specs.Columns.{spaces};
 ghost use Rattle.zknow_titles.specs.Lines.{ended_line, ended};
 ghost use Rattle.zknow_titles.specs.Wholes.{whole_lines};
+ghost use Rattle.zknow_titles.specs.Parts.{widest};
 ghost use Rattle.zknow_titles.specs.Rows.{row_name, wider, widths, row_head, row_entry, further_entry, below_row};
 ghost use Rattle.zknow_titles.specs.Rows.{copy_rows, below_rows, further_lines, several, record_lines, row_lines};
 
@@ -24,12 +25,24 @@ use zopac::{Holding, OpacRecord, put_holding};
 const NAME_COLUMNS: usize = 24;
 
 /// The columns of positions and of names, over all rows.
-#[derive(Clone, Copy)]
-pub(crate) struct Widths {
+#[derive(Clone, Copy, Debug, PartialEq, Eq, Default)]
+pub struct Widths {
     /// The columns of positions.
-    pub(crate) position: usize,
+    pub position: usize,
     /// The columns of names.
-    pub(crate) name: usize,
+    pub name: usize,
+}
+
+impl Widths {
+    /// Returns the greater of both.
+    pub fn widest(self, other: Widths) -> Widths
+        ensures { result ≡ widest self other }
+    {
+        Widths {
+            position: greater(self.position, other.position),
+            name: greater(self.name, other.name),
+        }
+    }
 }
 
 /// Returns the name of a row.
@@ -47,8 +60,8 @@ fn greater(a: usize, b: usize) -> usize
     if a <= b { b } else { a }
 }
 
-/// Returns at least the widths so far, and those of one row more.
-fn wider(
+/// Returns at least the widths so far, and those of one row more. `shown` has the names as `show_names` returns them.
+pub fn wider(
     alloc: Global,
     shown: &[String],
     so_far: Widths,
@@ -64,12 +77,8 @@ fn wider(
     })
 }
 
-/// Returns the columns of positions and of names, over all rows.
-pub(crate) fn find_widths(
-    alloc: Global,
-    shown: &[String],
-    rows: &[RowKey],
-) -> Result<Widths, AllocError>
+/// Returns the columns of positions and of names, over all rows. `shown` has the names as `show_names` returns them.
+pub fn find_widths(alloc: Global, shown: &[String], rows: &[RowKey]) -> Result<Widths, AllocError>
     ensures { IfOk result (λ found. found ≡ widths (map string_bytes shown.now) rows.now) }
 {
     let mut found = Widths {

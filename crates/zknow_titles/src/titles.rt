@@ -26,7 +26,7 @@ fn put_between(head: &[u8], rows: &[RowKey], out: &mut Vec<u8>) -> Result<(), Al
 }
 
 /// Appends the lines of each row.
-fn put_rows(
+pub(crate) fn put_rows(
     alloc: Global,
     extent: Extent,
     w: &Widths,

@@ -16,8 +16,8 @@ use zmarc::{Charset, Format, format_of, gather_lines, put_text, read_characters}
 use zopac::OpacRecord;
 
 /// How much the view shows of a record.
-#[derive(Clone, Copy)]
-pub(crate) enum Extent {
+#[derive(Clone, Copy, Debug, PartialEq, Eq)]
+pub enum Extent {
     /// Its year and its title.
     Title,
     /// These, and below them the whole record.

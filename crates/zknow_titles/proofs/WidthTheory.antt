@@ -1,18 +1,23 @@
--- The widths of texts that are cut, and of texts that are filled up with spaces.
-use Rattle.std.proofs.Common.{◌≡◌, ℕ, zero, suc, ◌+◌, ◌-◌, ◌≤◌, true, false, List, ◌++◌, leb, refl, ap, ◌∙◌, arith}
+-- The widths of texts that are cut, of texts that are filled up with spaces, and of rows in parts.
+use Rattle.std.proofs.Common.{◌≡◌, ℕ, zero, suc, ◌+◌, ◌-◌, ◌≤◌, true, false, List, [], ◌∷◌, ◌++◌, leb, refl, sym, ap, ◌∙◌, arith}
 use Rattle.std.proofs.lemmas.List.Elements.{All-replicate}
 use Rattle.std.proofs.lemmas.Str.Ascii.{IsAscii-from_all}
-use Rattle.std.specs.Prelude.{◌<◌}
+use Rattle.std.specs.Prelude.{◌<◌, fold, max}
 use Rattle.std.specs.Int.{is_in_range}
 use Rattle.std.specs.List.{list_all}
 use Rattle.std.specs.Str.{IsUtf8, chars}
 use Rattle.std.proofs.lemmas.Bool.{leb-true, cond_both}
 use Rattle.std.proofs.lemmas.List.{length-replicate}
+use Rattle.std.proofs.lemmas.List.Sums.{fold-append}
 use Rattle.std.proofs.lemmas.Str.{chars-append, chars-IsAscii}
 use Rattle.unicode_width.specs.Width.{str_width}
 use Rattle.unicode_width.proofs.Computing.{unicode_width}
 use Rattle.unicode_width.proofs.Rules.{is_simple, str_width-append_simple, str_width-printable}
+use Rattle.zknow.specs.declared.tables.keys.RowKey.{RowKey}
+use Rattle.zknow_titles.specs.declared.rows.Widths.{Widths}
 use Rattle.zknow_titles.specs.Columns.{width, ellipsis, cut, widest_cut, clipped, spaces, padded}
+use Rattle.zknow_titles.specs.Parts.{widest, WidthsLaw}
+use Rattle.zknow_titles.specs.Rows.{position_width, name_width, wider, widths}
 
 -- ---- texts that are cut
 
@@ -61,3 +66,37 @@ pub padded_width : (columns : ℕ) (t : List ℕ) → IsUtf8 t → width t ≤ c
 padded_width columns t u h =
     let whole = behind_width (columns - width t) t u in
     omega (arith, whole)
+
+-- ---- rows in parts
+
+max_assoc : (a b c : ℕ) → max (max a b) c ≡ max a (max b c)
+max_assoc a b c = omega arith
+
+max_none : (a : ℕ) → max a 0 ≡ a
+max_none a = omega arith
+
+-- both widths of a row
+abbrev both : ℕ → ℕ → Widths
+both position name = record { position = position; name = name }
+
+-- the columns of rows behind others are at least those
+widths_behind : (shown : List (List ℕ)) (w v : Widths) (rows : List RowKey)
+    → fold (wider shown) (widest w v) rows ≡ widest w (fold (wider shown) v rows)
+widths_behind shown w v [] = refl
+widths_behind shown w v (k ∷ rows) =
+    let p = position_width k in
+    let n = name_width shown k in
+    ap (λ u. fold (wider shown) u rows)
+    (ap (λ q. both q (max (max w.name v.name) n)) (max_assoc w.position v.position p)
+    ∙ ap (λ q. both (max w.position (max v.position p)) q) (max_assoc w.name v.name n))
+    ∙ widths_behind shown w (wider shown v k) rows
+
+-- the columns of rows are those of their parts
+pub widths_append : WidthsLaw
+widths_append shown xs ys =
+    let none = both 0 0 in
+    let w = widths shown xs in
+    let same : widest w none ≡ w = ap (λ q. both q (max w.name 0)) (max_none w.position) ∙ ap (λ q. both w.position q)
+    (max_none w.name) in
+    fold-append (wider shown) none xs ys ∙ sym (ap (λ u. fold (wider shown) u ys) same)
+    ∙ widths_behind shown w none ys
