@@ -32,7 +32,7 @@ use Rattle.zknow_records.proofs.Taking.{same_left}
 -- ---- lists of lists, and counts, of two lists
 
 module _ {X Y : Type 0} (f g : X → List Y) where
-  flat_same : (xs : List X) → ((x : X) → Contains xs x → f x ≡ g x) → flat_map f xs ≡ flat_map g xs
+  pub flat_same : (xs : List X) → ((x : X) → Contains xs x → f x ≡ g x) → flat_map f xs ≡ flat_map g xs
   flat_same [] same = refl
   flat_same (x ∷ xs) same =
       ap (λ ys. ys ++ flat_map f xs) (same x (in_head x xs))
@@ -110,7 +110,7 @@ module _ (low high all : List Fact) (parts : AreParts low high all) where
       let two = known_in high q of_high in
       row_less k q (parts.apart k q one.0 two.0 one.1 two.1)
 
-  rows_are : rows low ++ rows high ≡ rows all
+  pub rows_are : rows low ++ rows high ≡ rows all
   rows_are = is_ascending row_cmp row_total row_exact (rows low ++ rows high) (filter_map row_key_of all)
       (sorted_append row_cmp (rows low) (rows high) (rows_sorted low) (rows_sorted high) rows_below)
       (λ k. (part_row k, row_part k))
@@ -131,7 +131,7 @@ module _ (low high all : List Fact) (parts : AreParts low high all) where
             ((same r).1 ((records_are k.target k.set part k.position r).0 h)),
       ))
 
-  low_records : (k : RowKey) → Contains (rows low) k → row_records all k ≡ row_records low k
+  pub low_records : (k : RowKey) → Contains (rows low) k → row_records all k ≡ row_records low k
   low_records k h =
       let one = known_in low k h in
       same_records low k parts.low_facts (λ r. (
@@ -140,7 +140,7 @@ module _ (low high all : List Fact) (parts : AreParts low high all) where
         λ seen. (parts.union k r).1 (inl seen),
       ))
 
-  high_records : (k : RowKey) → Contains (rows high) k → row_records all k ≡ row_records high k
+  pub high_records : (k : RowKey) → Contains (rows high) k → row_records all k ≡ row_records high k
   high_records k h =
       let one = known_in high k h in
       same_records high k parts.high_facts (λ r. (
@@ -151,20 +151,20 @@ module _ (low high all : List Fact) (parts : AreParts low high all) where
 
   -- ---- all rows
 
-  module _ {Y : Type 0} (f : List Record → List Y) where
-    abbrev of_rows : List Fact → List Y
-    of_rows facts = flat_map (λ k. f (row_records facts k)) (rows facts)
+  module _ {Y : Type 0} (f : RowKey → List Record → List Y) where
+    abbrev of_row : List Fact → RowKey → List Y
+    of_row facts k = f k (row_records facts k)
 
-    rows_in_parts : of_rows all ≡ of_rows low ++ of_rows high
+    -- what is made of the rows of all facts, row by row, is made of those of the first part, and then of the second
+    pub rows_in_parts : flat_map (λ k. f k (row_records all k)) (rows all)
+        ≡ flat_map (λ k. f k (row_records low k)) (rows low) ++ flat_map (λ k. f k (row_records high k)) (rows high)
     rows_in_parts =
-        ap (flat_map (λ k. f (row_records all k))) (sym rows_are)
-        ∙ flat_map-append (λ k. f (row_records all k)) (rows low) (rows high)
-        ∙ ap (λ ys. ys ++ flat_map (λ k. f (row_records all k)) (rows high))
-        (flat_same (λ k. f (row_records all k)) (λ k. f (row_records low k)) (rows low)
-        (λ k h. ap f (low_records k h)))
-        ∙ ap (λ ys. of_rows low ++ ys)
-        (flat_same (λ k. f (row_records all k)) (λ k. f (row_records high k)) (rows high)
-        (λ k h. ap f (high_records k h)))
+        ap (flat_map (of_row all)) (sym rows_are)
+        ∙ flat_map-append (of_row all) (rows low) (rows high)
+        ∙ ap (λ ys. ys ++ flat_map (of_row all) (rows high))
+        (flat_same (of_row all) (of_row low) (rows low) (λ k h. ap (f k) (low_records k h)))
+        ∙ ap (λ ys. flat_map (of_row low) (rows low) ++ ys)
+        (flat_same (of_row all) (of_row high) (rows high) (λ k h. ap (f k) (high_records k h)))
 
   abbrev conflict_count : List Fact → ℕ
   conflict_count facts = count_by (λ k. is_conflict (row_records facts k)) (rows facts)
@@ -188,7 +188,7 @@ module _ (low high all : List Fact) (parts : AreParts low high all) where
 module _ (asked : Option (List ℕ)) (conflicts : Bool) (low high all : List Fact) where
   taken_in_parts : (syntax : Option (List ℕ)) → AreParts low high all
       → all_taken syntax conflicts all ≡ all_taken syntax conflicts low ++ all_taken syntax conflicts high
-  taken_in_parts syntax parts = rows_in_parts low high all parts (taken syntax conflicts)
+  taken_in_parts syntax parts = rows_in_parts low high all parts (λ k. taken syntax conflicts)
 
   count_in_parts : (p : Record → Bool) (syntax : Option (List ℕ)) → AreParts low high all
       → count_by p (all_taken syntax conflicts all)
