@@ -27,6 +27,7 @@ import extracting
 import hosts
 import html_pages
 import json_lines
+import joining
 import large
 import marc_made
 import marc_views
@@ -200,6 +201,8 @@ def main():
         print(f"program: {2 * merging.CASES} merges of saved files")
         faults += extracting.faults(ZMETA)
         print(f"program: records of {2 * extracting.CASES} sets of saved files")
+        faults += joining.faults(ZMETA)
+        print(f"program: lists of {2 * joining.CASES} sets of saved files")
         faults += large.faults(ZMETA, room)
         print(f"program: large input of {len(large.COMMANDS)} commands")
         faults += [it for it in (fault_of_view(room, *it) for it in views.files()) if it]

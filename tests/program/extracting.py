@@ -86,14 +86,18 @@ def due_of(facts, values, only, syntax, conflicts):
     return (1 if any(it[0] == FAILED for it in facts) else 0), out, told.encode()
 
 
-def records(zmeta, room, *words):
-    ran = subprocess.run([zmeta, "records", *words], stdin=subprocess.DEVNULL, capture_output=True, cwd=room,
+def run(zmeta, room, command, *words):
+    ran = subprocess.run([zmeta, command, *words], stdin=subprocess.DEVNULL, capture_output=True, cwd=room,
                          timeout=300, check=False)
     return ran.returncode, ran.stdout, ran.stderr
 
 
-def through_pipe(zmeta, room, path, words):
-    """What is written if one of the files is a pipe."""
+def records(zmeta, room, *words):
+    return run(zmeta, room, "records", *words)
+
+
+def through_pipe(zmeta, room, path, words, command="records"):
+    """What a command writes if one of the files is a pipe."""
     pipe = os.path.join(room, "pipe")
     os.mkfifo(pipe)
     with open(os.path.join(room, path), "rb") as file:
@@ -107,7 +111,7 @@ def through_pipe(zmeta, room, path, words):
 
     filler = threading.Thread(target=fill, daemon=True)
     filler.start()
-    found = records(zmeta, room, *("pipe" if it == path else it for it in words))
+    found = run(zmeta, room, command, *("pipe" if it == path else it for it in words))
     filler.join(10)
     os.unlink(pipe)
     return found

@@ -1,12 +1,13 @@
 -- The records by position before any was read.
-use Rattle.std.proofs.Common.{◌≡◌, ◌⊎◌, ◌↔◌, ◌+◌, ◌<◌, ◌≤ℤ◌, ℕ, ℤ, Bool, true, false, List, [], ◌∷◌, ◌++◌, length, take, get_or, Option, None, refl, sym, ap, subst, ◌∙◌, inl, inr, ⊎_elim}
+use Rattle.std.proofs.Common.{◌≡◌, ◌⊎◌, ◌↔◌, ◌+◌, ◌<◌, ◌≤ℤ◌, ℕ, ℤ, List, [], ◌∷◌, ◌++◌, length, take, get_or, Option, None, sym, ap, subst, ◌∙◌, inl, inr, ⊎_elim}
 use Rattle.std.proofs.lemmas.List.{take_more}
 use Rattle.std.proofs.lemmas.List.Elements.{Contains-append_left, Contains-append_right, Contains-append_cases, Contains-push_cases, Contains-push}
 use Rattle.std.specs.Prelude.{Contains, IfSome}
 use Rattle.zknow.specs.declared.fact.Fact.{Fact}
 use Rattle.zknow.specs.Facts.{AreFacts}
 use Rattle.zknow.specs.Tables.DistinctLaws.{none_in_nil, in_cons, in_head, in_tail}
-use Rattle.zknow_records.specs.Records.{left_out}
+use Rattle.zknow_forms.specs.Forms.{none_left, no_widths}
+use Rattle.zknow_forms.proofs.FormTheory.{form_laws_hold}
 use Rattle.zknow_runs.proofs.UnionTheory.{no_facts}
 use Rattle.zknow_runs.specs.declared.rows.Next.{Next}
 use Rattle.zknow_runs.specs.declared.rows.Rows.{Rows}
@@ -14,7 +15,7 @@ use Rattle.zknow_runs.specs.declared.rows.Taking.{Taking}
 use Rattle.zknow_runs.specs.declared.run.Run.{Run}
 use Rattle.zknow_runs.specs.OpenRuns.{IsPutAmong}
 use Rattle.zknow_runs.specs.RowSteps.{AreSameRuns}
-use Rattle.zknow_runs.specs.Rows.{AreAllWanted, next_run, left_runs, HoldsRows}
+use Rattle.zknow_runs.specs.Rows.{AreAllWanted, next_run, left_runs, kept_octets, HoldsRows}
 
 -- ---- runs are put
 
@@ -58,17 +59,12 @@ same_more runs waiting more i d lt same put r =
 
 -- ---- nothing was read
 
-none_left : (asked : Option (List ℕ)) (conflicts : Bool)
-    → left_out asked conflicts [] ≡ record { conflicts = 0; syntaxes = 0; diagnostics = 0; others = 0 }
-none_left asked true = refl
-none_left asked false = refl
-
 pub begun : (files : ℕ → Option (List ℕ)) (wanted : Fact → Type 0) (unknown : Type 0) (t : Taking) (runs : List Run)
     (rows : Rows) → rows.taking ≡ t → rows.next ≡ None → rows.gathered ≡ [] → rows.position ≡ None
-    → rows.octets.items ≡ [] → rows.left ≡ record { conflicts = 0; syntaxes = 0; diagnostics = 0; others = 0 }
+    → kept_octets rows ≡ [] → rows.tally ≡ record { left = none_left; widths = no_widths }
     → AreSameRuns runs rows.runs → AreAllWanted files wanted unknown runs
     → HoldsRows files wanted unknown t [] [] rows
-begun files wanted unknown t runs rows taking next gathered position octets left same all =
+begun files wanted unknown t runs rows taking next gathered position octets tally same all =
     let nothing : (f : Fact) → Contains rows.gathered f → ⊥ = λ f here. none_in_nil f (subst
     (λ (l : List Fact). Contains l f) gathered here) in
     record {
@@ -82,8 +78,8 @@ begun files wanted unknown t runs rows taking next gathered position octets left
       at = λ f none. absurd (nothing f none);
       above = λ r here. subst (λ (o : Option ℤ). IfSome o (λ q. q ≤ℤ r.position)) (sym position) tt;
       least = λ n r is due here. absurd cc;
-      written = octets;
-      counted = left ∙ sym (none_left t.syntax t.conflicts);
+      written = octets ∙ sym (form_laws_hold.empty t.form).text;
+      told = tally ∙ sym (form_laws_hold.empty t.form).tally;
     }
   where
     left_is : left_runs rows ≡ rows.runs

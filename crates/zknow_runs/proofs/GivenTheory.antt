@@ -5,20 +5,21 @@ use Rattle.std.specs.Int.Signed.{<ℤ-≤ℤ_trans, ≤ℤ_refl}
 use Rattle.std.proofs.lemmas.List.Elements.{Contains-append_cases, Contains-append_left, Contains-append_right}
 use Rattle.zapdu.specs.declared.productions.record.Record.{Record}
 use Rattle.zknow.specs.declared.fact.Fact.{Fact}
-use Rattle.zknow.specs.declared.fact.Fact.TheVariants.{Seen}
+use Rattle.zknow.specs.declared.fact.Fact.TheVariants.{Count, Failed, Seen, Diag}
 use Rattle.zknow.specs.Encodings.{encoding}
 use Rattle.zknow.specs.Facts.{AreFacts}
+use Rattle.zknow.specs.List.Listing.{block_key_of}
 use Rattle.zknow.specs.Saved.SavedFacts.{saved_fact}
 use Rattle.zknow.specs.Tables.DistinctLaws.{none_in_nil, in_cons, in_head, in_tail}
 use Rattle.zknow.proofs.SavedTheory.OneElement.{one_element, element_some}
-use Rattle.zknow_records.specs.Parts.{AreParts, left_sum}
-use Rattle.zknow_records.specs.Records.{records_octets, left_out}
-use Rattle.zknow_records.specs.declared.left_out.LeftOut.{LeftOut}
-use Rattle.zknow_records.proofs.PartTheory.{octets_in_parts, left_in_parts}
-use Rattle.zknow_runs.specs.Rows.{IsAt, IsTaken, AreElements, DoRise, HasFacts, IsCoveredBy, IsCovered, Owes, AreGiven, left_runs, HoldsRows, Holds, AreRows, AreRowsFront}
+use Rattle.zknow_forms.specs.Forms.{AreInParts, form_text, form_tally, tally_sum}
+use Rattle.zknow_forms.specs.declared.tally.Tally.{Tally}
+use Rattle.zknow_forms.proofs.FormTheory.{form_laws_hold}
+use Rattle.zknow_runs.specs.Rows.{IsAt, IsTaken, AreElements, DoRise, HasFacts, IsCoveredBy, IsCovered, Owes, AreGiven, left_runs, kept_octets, HoldsRows, Holds, AreRows, AreRowsFront}
 use Rattle.zknow_runs.specs.declared.rows.Rows.{Rows}
 use Rattle.zknow_runs.specs.declared.rows.Taking.{Taking}
 use Rattle.zknow_runs.specs.declared.run.Run.{Run}
+use Rattle.zknow_runs.proofs.RowTheory.{position_in, elements_go}
 use Rattle.zknow_runs.proofs.UnionTheory.{Joined, union_of, DoFit, fits_agree, Ordered, in_order}
 
 some_is : {A : Type 0} (x y : A) → ◌≡◌ {A = Option A} (Some x) (Some y) → x ≡ y
@@ -29,12 +30,18 @@ le_through a b c ab bc = grind arith
 
 -- ---- positions
 
-abbrev position_in : ℤ → Option (ℕ × ℤ) → ℤ
-position_in other None = other
-position_in other (Some at) = at.1
-
 seen_at : (t s : ℕ) (q : ℤ) (r : Record) (p : ℤ) → IsAt p (Seen t s q r) → q ≡ p
 seen_at t s q r p at = ap (position_in q) at.1
+
+no_place : (target : ℕ) (p : ℤ) → ◌≡◌ {A = Option (ℕ × ℤ)} None (Some (target, p)) → ⊥
+no_place target p is = absurd cc
+
+-- a fact that has a position is a record
+record_at : (p : ℤ) (f : Fact) → IsAt p f → block_key_of f ≡ None
+record_at p (Count t s n) at = absurd (no_place at.0 p at.1)
+record_at p (Failed t s) at = absurd (no_place at.0 p at.1)
+record_at p (Seen t s q r) at = refl
+record_at p (Diag t s q d) at = absurd (no_place at.0 p at.1)
 
 -- the fact is at a lower position than this one
 abbrev pub IsLow : Option ℤ → Fact → Type 0
@@ -56,12 +63,13 @@ low_high o t s p r u v q w low high =
 parts_of : (o : Option ℤ) (low high all : List Fact) → AreFacts low → AreFacts high → AreFacts all
     → ((f : Fact) → Contains all f ↔ (Contains low f ⊎ Contains high f))
     → ((f : Fact) → Contains low f → IsLow o f) → ((f : Fact) → Contains high f → IsHigh o f)
-    → AreParts low high all
+    → AreInParts low high all
 parts_of o low high all of_low of_high of_all union is_low is_high = record {
   low_facts = of_low;
   high_facts = of_high;
   all_facts = of_all;
-  union = λ k r. union (Seen k.target k.set k.position r);
+  union = union;
+  records = λ f here. let at = is_high f here in record_at at.0 f at.1;
   apart =
       λ k q r s hl hh. low_high o k.target k.set k.position r q.target q.set q.position s
       (is_low (Seen k.target k.set k.position r) hl) (is_high (Seen q.target q.set q.position s) hh);
@@ -69,16 +77,10 @@ parts_of o low high all of_low of_high of_all union is_low is_high = record {
 
 -- ---- the facts of a run
 
-elements_rise : (file : List ℕ) (begin end : ℕ) (fs : List Fact) → AreElements file begin end fs → begin ≤ end
-elements_rise file begin end [] h = omega (arith, h)
-elements_rise file begin end (f ∷ fs) h =
-    let rest = elements_rise file (begin + length (encoding saved_fact f)) end fs h.1 in
-    omega (arith, rest)
-
 no_more : (file : List ℕ) (begin end : ℕ) (f : Fact) (fs : List Fact) → begin ≡ end
     → AreElements file begin end (f ∷ fs) → ⊥
 no_more file begin end f fs same h =
-    let rest = elements_rise file (begin + length (encoding saved_fact f)) end fs h.1 in
+    let rest = elements_go file (begin + length (encoding saved_fact f)) end fs h.1 in
     let some = element_some saved_fact f (encoding saved_fact f) h.0.fits in
     omega (arith, rest, some, same)
 
@@ -175,27 +177,27 @@ module _ (files : ℕ → Option (List ℕ)) (wanted : Fact → Type 0) (unknown
         union_of low rows.gathered h.low_facts h.gathered_facts
         (fits_agree low rows.gathered low_fits gathered_fits)
 
-    pub appended_parts : AreParts low rows.gathered appended.0
+    pub appended_parts : AreInParts low rows.gathered appended.0
     appended_parts =
         parts_of rows.position low rows.gathered appended.0 h.low_facts h.gathered_facts appended.1 appended.2 h.below
         gathered_high
 
     pub appended_octets : (octets : List ℕ)
-        → octets ≡ rows.octets.items ++ records_octets t.syntax t.conflicts rows.gathered
-        → text ++ octets ≡ records_octets t.syntax t.conflicts appended.0
+        → octets ≡ kept_octets rows ++ form_text t.form rows.gathered
+        → text ++ octets ≡ form_text t.form appended.0
     appended_octets octets is =
-        let more : List ℕ = records_octets t.syntax t.conflicts rows.gathered in
+        let more : List ℕ = form_text t.form rows.gathered in
         ap (λ (l : List ℕ). text ++ l) is
-        ∙ sym (append_assoc text rows.octets.items more)
+        ∙ sym (append_assoc text (kept_octets rows) more)
         ∙ ap (λ (l : List ℕ). l ++ more) h.written
-        ∙ sym (octets_in_parts t.syntax t.conflicts low rows.gathered appended.0 appended_parts)
+        ∙ sym ((form_laws_hold.parts t.form low rows.gathered appended.0).text appended_parts)
 
-    pub appended_left : (left : LeftOut) → left ≡ left_sum rows.left (left_out t.syntax t.conflicts rows.gathered)
-        → left ≡ left_out t.syntax t.conflicts appended.0
-    appended_left left is =
+    pub appended_tally : (tally : Tally) → tally ≡ tally_sum rows.tally (form_tally t.form rows.gathered)
+        → tally ≡ form_tally t.form appended.0
+    appended_tally tally is =
         is
-        ∙ ap (λ (l : LeftOut). left_sum l (left_out t.syntax t.conflicts rows.gathered)) h.counted
-        ∙ sym (left_in_parts t.syntax t.conflicts low rows.gathered appended.0 appended_parts)
+        ∙ ap (λ (l : Tally). tally_sum l (form_tally t.form rows.gathered)) h.told
+        ∙ sym ((form_laws_hold.parts t.form low rows.gathered appended.0).tally appended_parts)
 
     -- ---- nothing is left of the runs
 
@@ -212,14 +214,14 @@ module _ (files : ℕ → Option (List ℕ)) (wanted : Fact → Type 0) (unknown
     }
 
     pub rows_end : left_runs rows ≡ [] → (octets : List ℕ)
-        → octets ≡ rows.octets.items ++ records_octets t.syntax t.conflicts rows.gathered → (left : LeftOut)
-        → left ≡ left_sum rows.left (left_out t.syntax t.conflicts rows.gathered)
-        → AreRows files wanted unknown t (text ++ octets) left
-    rows_end none octets is left counted = record {
+        → octets ≡ kept_octets rows ++ form_text t.form rows.gathered → (tally : Tally)
+        → tally ≡ tally_sum rows.tally (form_tally t.form rows.gathered)
+        → AreRows files wanted unknown t (text ++ octets) tally
+    rows_end none octets is tally told = record {
       given = appended.0;
       are = given_at_end none;
       octets = appended_octets octets is;
-      counts = appended_left left counted;
+      tally = appended_tally tally told;
     }
 
     -- ---- what was written is a front
@@ -266,7 +268,7 @@ module _ (files : ℕ → Option (List ℕ)) (wanted : Fact → Type 0) (unknown
       is_high f here =
           ⊎_elim (gathered_high f) (owed_high f) (Contains-append_cases rows.gathered owed.0 f ((high.2 f).0 here))
 
-      front_parts : AreParts low high.0 given.0
+      front_parts : AreInParts low high.0 given.0
       front_parts =
           parts_of rows.position low high.0 given.0 h.low_facts high.1 given.1 in_parts h.below is_high
 
@@ -292,15 +294,15 @@ module _ (files : ℕ → Option (List ℕ)) (wanted : Fact → Type 0) (unknown
 
       front_of : AreRowsFront files wanted unknown t text
       front_of =
-          let more : List ℕ = records_octets t.syntax t.conflicts high.0 in
+          let more : List ℕ = form_text t.form high.0 in
           record {
             given = given.0;
-            rest = rows.octets.items ++ more;
+            rest = kept_octets rows ++ more;
             are = are_given;
             octets =
-                sym (append_assoc text rows.octets.items more)
+                sym (append_assoc text (kept_octets rows) more)
                 ∙ ap (λ (l : List ℕ). l ++ more) h.written
-                ∙ sym (octets_in_parts t.syntax t.conflicts low high.0 given.0 front_parts);
+                ∙ sym ((form_laws_hold.parts t.form low high.0 given.0).text front_parts);
           }
 
   pub rows_front : (t : Taking) (text : List ℕ) (rows : Rows) → Holds files wanted unknown t text rows

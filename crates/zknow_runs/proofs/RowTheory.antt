@@ -22,12 +22,12 @@ element_has : (f : Fact) → IsWithinLimits saved_fact f → 0 < size_of f
 element_has f fits = element_some saved_fact f (encoding saved_fact f) fits
 
 -- the number of a place, if there is one
-abbrev position_in : ℤ → Option (ℕ × ℤ) → ℤ
+abbrev pub position_in : ℤ → Option (ℕ × ℤ) → ℤ
 position_in other None = other
 position_in other (Some at) = at.1
 
 -- elements end where they begin, or behind
-elements_go : (file : List ℕ) (begin end : ℕ) (fs : List Fact) → AreElements file begin end fs → begin ≤ end
+pub elements_go : (file : List ℕ) (begin end : ℕ) (fs : List Fact) → AreElements file begin end fs → begin ≤ end
 elements_go file begin end [] are = omega (arith, are)
 elements_go file begin end (f ∷ fs) are =
     omega (arith, elements_go file (begin + size_of f) end fs are.1)

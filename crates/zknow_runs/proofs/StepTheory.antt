@@ -1,18 +1,17 @@
 -- Steps of the records by position.
-use Rattle.std.proofs.Common.{◌≡◌, ◌⊎◌, ◌+◌, ◌<◌, ◌≤◌, ◌<ℤ◌, ◌≤ℤ◌, ℕ, ℤ, Bool, true, false, List, [], ◌∷◌, ◌++◌, Option, Some, None, Result, Ok, Err, refl, sym, ap, subst, ◌∙◌, inl, inr, ⊎_elim, true≢false, arith}
+use Rattle.std.proofs.Common.{◌≡◌, ◌⊎◌, ◌↔◌, ◌+◌, ◌<◌, ◌≤◌, ◌<ℤ◌, ◌≤ℤ◌, ℕ, ℤ, Bool, true, false, List, [], ◌∷◌, ◌++◌, Option, Some, None, Result, Ok, Err, refl, sym, ap, subst, ◌∙◌, inl, inr, ⊎_elim, true≢false, arith}
 use Rattle.std.proofs.lemmas.Int.{ints}
 use Rattle.std.proofs.lemmas.Bool.Decides.{nat_tests}
-use Rattle.std.proofs.lemmas.List.Elements.{Contains-append_left, Contains-append_right, Contains-append_cases}
+use Rattle.std.proofs.lemmas.List.Elements.{Contains-append_right}
 use Rattle.std.specs.Prelude.{Contains, IfSome, IfOk, nat_lt, if◌then◌else◌}
 use Rattle.std.specs.declared.alloc.AllocError.{AllocError}
 use Rattle.zknow.specs.declared.fact.Fact.{Fact}
 use Rattle.zknow.specs.Facts.{AreFacts}
 use Rattle.zknow.specs.Saved.Fronts.{IsTakenFront}
 use Rattle.zknow.specs.Saved.SavedFacts.{saved_fact}
-use Rattle.zknow.specs.Tables.DistinctLaws.{none_in_nil, in_cons, in_head, in_tail, each_in}
+use Rattle.zknow.specs.Tables.DistinctLaws.{none_in_nil, in_cons, in_head, each_in}
 use Rattle.zknow.specs.Tables.Join.{IsUnion}
-use Rattle.zknow_records.specs.Parts.{left_sum}
-use Rattle.zknow_records.specs.Records.{records_octets, left_out}
+use Rattle.zknow_forms.specs.Forms.{form_text, form_tally, tally_sum}
 use Rattle.zknow_runs.specs.declared.rows.Next.{Next}
 use Rattle.zknow_runs.specs.declared.rows.ReadStep.{ReadStep}
 use Rattle.zknow_runs.specs.declared.rows.ReadStep.TheVariants as steps
@@ -20,11 +19,12 @@ use Rattle.zknow_runs.specs.declared.rows.Rows.{Rows}
 use Rattle.zknow_runs.specs.declared.rows.Taking.{Taking}
 use Rattle.zknow_runs.specs.declared.run.Run.{Run}
 use Rattle.zknow_runs.specs.OpenRuns.{IsPutAmong, IsLeast}
-use Rattle.zknow_runs.specs.Rows.{place_of, is_taken, IsAt, IsTaken, StandAt, StandNext, IsCovered, Owes, AreRows, next_run, left_runs, HoldsRows, Holds, Sources, HoldsOf, AfterReadOf}
+use Rattle.zknow_runs.specs.Rows.{place_of, is_taken, IsAt, IsTaken, StandAt, StandNext, IsCovered, Owes, AreRows, next_run, left_runs, kept_octets, HoldsRows, Holds, Sources, HoldsOf, AfterReadOf}
 use Rattle.zknow_runs.specs.RowSteps.{next_behind, rest_of, HasAppended, HasTurned, HasTaken, AfterTaken}
+use Rattle.zknow_runs.proofs.BeginTheory.{put_cases}
 use Rattle.zknow_runs.proofs.RowTheory.{owed, rest_covered, wanted_or, placed_covered, placed_owes, owes_none}
 use Rattle.zknow_runs.proofs.UnionTheory.{Joined, no_facts}
-use Rattle.zknow_runs.proofs.GivenTheory.{appended, appended_octets, appended_left, rows_end}
+use Rattle.zknow_runs.proofs.GivenTheory.{appended, appended_octets, appended_tally, rows_end}
 
 none_some : (n : Next) → None ≡ Some n → ⊥
 none_some n is = absurd cc
@@ -64,7 +64,7 @@ module _ (files : ℕ → Option (List ℕ)) (wanted : Fact → Type 0) (unknown
         above = λ r here. h.above r (subst (λ (l : List Run). Contains l r) (sym same) here);
         least = λ n r is due here. by n r is here;
         written = h.written;
-        counted = h.counted;
+        told = h.told;
       }
     where
       by : (n : Next) (r : Run) → Some (record { number = number; run = run; is_due = true }) ≡ Some n
@@ -80,14 +80,11 @@ module _ (files : ℕ → Option (List ℕ)) (wanted : Fact → Type 0) (unknown
     all_low = appended files wanted unknown t text low old h
 
     module _ (mid : Rows) (a : HasAppended old mid) where
-      octets_are : mid.octets.items ≡ old.octets.items ++ records_octets t.syntax t.conflicts old.gathered
-      octets_are =
-          a.octets
-          ∙ ap (λ (z : Taking). old.octets.items ++ records_octets z.syntax z.conflicts old.gathered) h.taking
+      octets_are : kept_octets mid ≡ kept_octets old ++ form_text t.form old.gathered
+      octets_are = a.octets ∙ ap (λ (z : Taking). kept_octets old ++ form_text z.form old.gathered) h.taking
 
-      left_are : mid.left ≡ left_sum old.left (left_out t.syntax t.conflicts old.gathered)
-      left_are =
-          a.left ∙ ap (λ (z : Taking). left_sum old.left (left_out z.syntax z.conflicts old.gathered)) h.taking
+      tally_is : mid.tally ≡ tally_sum old.tally (form_tally t.form old.gathered)
+      tally_is = a.tally ∙ ap (λ (z : Taking). tally_sum old.tally (form_tally z.form old.gathered)) h.taking
 
       same_left : left_runs mid ≡ left_runs old
       same_left = ap (λ (n : Option Next). next_run n ++ mid.runs) a.next ∙ ap
@@ -118,8 +115,8 @@ module _ (files : ℕ → Option (List ℕ)) (wanted : Fact → Type 0) (unknown
         above = λ r here. all_above r (subst (λ (l : List Run). Contains l r) same_left here);
         least = λ n r is due here. h.least n r (sym a.next ∙ is) due (subst
             (λ (l : List Run). Contains l r) a.runs here);
-        written = appended_octets files wanted unknown t text low old h mid.octets.items octets_are;
-        counted = appended_left files wanted unknown t text low old h mid.left left_are;
+        written = appended_octets files wanted unknown t text low old h (kept_octets mid) octets_are;
+        told = appended_tally files wanted unknown t text low old h mid.tally tally_is;
       }
         where
           was_below : (f : Fact) → Contains low f → (p q : ℤ) × IsAt p f × (Some position ≡ Some q) × (p <ℤ q)
@@ -138,10 +135,10 @@ module _ (files : ℕ → Option (List ℕ)) (wanted : Fact → Type 0) (unknown
     -- ---- the end
 
     pub ended : (mid : Rows) → HasAppended old mid → left_runs old ≡ []
-        → AreRows files wanted unknown t (text ++ mid.octets.items) mid.left
+        → AreRows files wanted unknown t (text ++ kept_octets mid) mid.tally
     ended mid a none =
-        rows_end files wanted unknown t text low old h none mid.octets.items (octets_are mid a) mid.left
-        (left_are mid a)
+        rows_end files wanted unknown t text low old h none (kept_octets mid) (octets_are mid a) mid.tally
+        (tally_is mid a)
 
   -- ---- a record is gathered
 
@@ -227,8 +224,8 @@ module _ (files : ℕ → Option (List ℕ)) (wanted : Fact → Type 0) (unknown
           (λ later. h.above r (later_left r later))
           (rest_left r (subst (λ (l : List Run). Contains l r) left_is here)));
       least = λ m r some due here. absurd (not_due m (sym (ap (λ (z : Rows). z.next) is) ∙ some) due);
-      written = ap (λ (z : Rows). text ++ z.octets.items) is ∙ h.written;
-      counted = ap (λ (z : Rows). z.left) is ∙ h.counted;
+      written = ap (λ (z : Rows). text ++ kept_octets z) is ∙ h.written;
+      told = ap (λ (z : Rows). z.tally) is ∙ h.told;
     }
       where
         position_is : new.position ≡ mid.position
@@ -295,24 +292,24 @@ module _ (files : ℕ → Option (List ℕ)) (wanted : Fact → Type 0) (unknown
       sound = λ g here. h.sound g (subst (λ (l : List Fact). Contains low g ⊎ Contains l g) (ap
           (λ (z : Rows). z.gathered) is) here);
       covered = λ r here. ⊎_elim
-          (λ one. subst (IsCovered files wanted unknown) (sym one)
+          (λ later. h.covered r (later_left r later))
+          (λ one. subst (IsCovered files wanted unknown) one
           (placed_covered files wanted unknown n.run octets stand f size taken position (target, place)
           (h.covered n.run first_left)))
-          (λ later. h.covered r (later_left r later))
-          (cases r here);
+          ((cases r).0 here);
       below = λ g here. let b = h.below g here in (b.0, b.1, b.2, position_is ∙ b.3, b.4);
       at = λ g here.
           let a = h.at g (subst (λ (l : List Fact). Contains l g) (ap (λ (z : Rows). z.gathered) is) here) in
           (a.0, a.1, position_is ∙ a.2);
       above = λ r here. subst (λ (o : Option ℤ). IfSome o (λ q. q ≤ℤ r.position)) (sym position_is)
           (⊎_elim
-          (λ one. subst (λ (z : Run). IfSome mid.position (λ q. q ≤ℤ z.position)) (sym one) (raise mid.position
-          (h.above n.run first_left)))
           (λ later. h.above r (later_left r later))
-          (cases r here));
+          (λ one. subst (λ (z : Run). IfSome mid.position (λ q. q ≤ℤ z.position)) one (raise mid.position
+          (h.above n.run first_left)))
+          ((cases r).0 here));
       least = λ m r some due here. absurd (none_some m (sym (ap (λ (z : Rows). z.next) is) ∙ some));
-      written = ap (λ (z : Rows). text ++ z.octets.items) is ∙ h.written;
-      counted = ap (λ (z : Rows). z.left) is ∙ h.counted;
+      written = ap (λ (z : Rows). text ++ kept_octets z) is ∙ h.written;
+      told = ap (λ (z : Rows). z.tally) is ∙ h.told;
     }
       where
         position_is : new.position ≡ mid.position
@@ -325,38 +322,19 @@ module _ (files : ℕ → Option (List ℕ)) (wanted : Fact → Type 0) (unknown
         raise None below = tt
         raise (Some q) below = omega (arith, ints, below, above)
 
-        cases : (r : Run) → Contains (left_runs new) r → (r ≡ (at_run position)) ⊎ Contains mid.runs r
-        cases r here = ⊎_elim
-            (λ early. inr (subst (λ (l : List Run). Contains l r) (sym put.was)
-            (Contains-append_left put.before put.after r early)))
-            (λ late. ⊎_elim (λ same. inl (sym same))
-            (λ behind. inr (subst (λ (l : List Run). Contains l r) (sym put.was)
-            (Contains-append_right put.before put.after r behind)))
-            (in_cons (at_run position) put.after r late))
-            (Contains-append_cases put.before ((at_run position) ∷ put.after) r
-            (subst (λ (l : List Run). Contains l r) (left_is ∙ put.is) here))
-
-        in_new : (r : Run) → (r ≡ (at_run position)) ⊎ Contains mid.runs r → Contains (left_runs new) r
-        in_new r one = subst (λ (l : List Run). Contains l r) (sym (left_is ∙ put.is)) (⊎_elim
-            (λ same. subst (Contains (put.before ++ (at_run position) ∷ put.after)) (sym same)
-            (Contains-append_right put.before ((at_run position) ∷ put.after) (at_run position) (in_head
-            (at_run position) put.after)))
-            (λ had. ⊎_elim
-            (λ early. Contains-append_left put.before ((at_run position) ∷ put.after) r early)
-            (λ late. Contains-append_right put.before ((at_run position) ∷ put.after) r (in_tail
-            (at_run position) put.after r late))
-            (Contains-append_cases put.before put.after r (subst (λ (l : List Run). Contains l r) put.was had)))
-            one)
+        cases : (r : Run) → Contains (left_runs new) r ↔ (Contains mid.runs r ⊎ (at_run position ≡ r))
+        cases r = subst (λ (l : List Run). Contains l r ↔ (Contains mid.runs r ⊎ (at_run position ≡ r))) (sym left_is)
+            (put_cases mid.runs new.runs (at_run position) r put)
 
         owes_left : (g : Fact) (r : Run) → Owes files wanted unknown r g → (n.run ≡ r) ⊎ Contains mid.runs r
             → (r : Run) × Contains (left_runs new) r × Owes files wanted unknown r g
         owes_left g r o (inl same) = (
-          (at_run position),
-          in_new (at_run position) (inl refl),
+          at_run position,
+          (cases (at_run position)).1 (inr refl),
           placed_owes files wanted unknown n.run octets stand f size taken position (target, place) g
               (subst (λ (z : Run). Owes files wanted unknown z g) (sym same) o),
         )
-        owes_left g r o (inr later) = (r, in_new r (inr later), o)
+        owes_left g r o (inr later) = (r, (cases r).1 (inl later), o)
 
   -- ---- what was read is taken
 

@@ -1,12 +1,11 @@
 -- Where the records that are taken stand in saved files: each as the run of it alone.
-use Rattle.std.specs.Prelude.{ℕ, suc, ◌<◌, List, [], ◌∷◌, ◌++◌, length, slice_index_or, if◌then◌else◌, Contains, Option, Some, None}
+use Rattle.std.specs.Prelude.{ℕ, ℤ, suc, ◌<◌, List, [], ◌∷◌, ◌++◌, length, slice_index_or, if◌then◌else◌, Contains, Option, Some, None}
 use Rattle.std.specs.Option.{IsSome}
 use Rattle.zknow.specs.declared.fact.Fact.{Fact}
 use Rattle.zknow.specs.Saved.Saved.{saved}
 use Rattle.zknow_runs.specs.declared.rows.Chosen.{Chosen}
 use Rattle.zknow_runs.specs.declared.run.Run.{Run}
 use Rattle.zknow_runs.specs.Rows.{place_of, is_taken, IsTaken}
-use Rattle.std.specs.Prelude.{ℤ}
 
 -- the run of one record at a position of a file, behind the names and these facts
 abbrev pub run_of : List (List ℕ) → ℕ → List Fact → Fact → ℤ → Run

@@ -1,11 +1,11 @@
--- What was written is a front of the octets of facts that may be given.
+-- What was written is a front of the text of facts that may be given.
 use Rattle.std.specs.Prelude.{◌≡◌, ℕ, true, List, Contains}
 use Rattle.zknow.specs.declared.fact.Fact.{Fact}
 use Rattle.zknow_runs.specs.Rows.{IsTaken, AreRowsFront, Sources, HoldsOf}
 use Rattle.zknow_runs.specs.declared.rows.Rows.{Rows}
 use Rattle.zknow_runs.specs.declared.rows.Taking.{Taking}
 
--- the octets are a front of those of facts that may be given
+-- the octets are a front of the text of facts that may be given
 abbrev pub AreRowsFrontOf : Sources → Taking → List ℕ → Type 0
 AreRowsFrontOf s t text = AreRowsFront s.files (Contains s.known) (s.unknown ≡ true) t text
 

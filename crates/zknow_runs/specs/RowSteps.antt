@@ -3,15 +3,14 @@ use Rattle.std.specs.Prelude.{◌≡◌, ◌≢◌, ◌↔◌, ◌⊎◌, ◌+�
 use Rattle.zknow.specs.declared.fact.Fact.{Fact}
 use Rattle.zknow.specs.Facts.{AreFacts}
 use Rattle.zknow.specs.Tables.Join.{IsUnion}
-use Rattle.zknow_records.specs.Records.{records_octets, left_out}
-use Rattle.zknow_records.specs.Parts.{left_sum}
+use Rattle.zknow_forms.specs.Forms.{form_text, form_tally, tally_sum}
 use Rattle.zknow_runs.specs.declared.rows.Next.{Next}
 use Rattle.zknow_runs.specs.declared.rows.ReadStep.{ReadStep}
 use Rattle.zknow_runs.specs.declared.rows.ReadStep.TheVariants as steps
 use Rattle.zknow_runs.specs.declared.rows.Rows.{Rows}
 use Rattle.zknow_runs.specs.declared.run.Run.{Run}
 use Rattle.zknow_runs.specs.OpenRuns.{IsPutAmong}
-use Rattle.zknow_runs.specs.Rows.{place_of, is_taken}
+use Rattle.zknow_runs.specs.Rows.{place_of, is_taken, kept_octets}
 
 -- the same runs are in both lists
 abbrev pub AreSameRuns : List Run → List Run → Type 0
@@ -32,9 +31,8 @@ pub record HasAppended (old new : Rows) : Type 0 where
   pub next : new.next ≡ old.next
   pub position : new.position ≡ old.position
   pub gathered : new.gathered ≡ []
-  pub octets : new.octets.items
-      ≡ old.octets.items ++ records_octets old.taking.syntax old.taking.conflicts old.gathered
-  pub left : new.left ≡ left_sum old.left (left_out old.taking.syntax old.taking.conflicts old.gathered)
+  pub octets : kept_octets new ≡ kept_octets old ++ form_text old.taking.form old.gathered
+  pub tally : new.tally ≡ tally_sum old.tally (form_tally old.taking.form old.gathered)
 
 -- the position is this one, as it was, or another one was and its records were appended
 abbrev pub HasTurned : Rows → ℤ → Rows → Type 0

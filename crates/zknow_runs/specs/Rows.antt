@@ -6,8 +6,8 @@ use Rattle.zknow.specs.Encodings.{encoding}
 use Rattle.zknow.specs.Facts.{AreFacts}
 use Rattle.zknow.specs.Saved.SavedFacts.{saved_fact}
 use Rattle.zknow.specs.Saved.Saved.{IsWithinLimits}
-use Rattle.zknow_records.specs.Records.{records_octets, left_out}
-use Rattle.zknow_records.specs.declared.left_out.LeftOut.{LeftOut}
+use Rattle.zknow_forms.specs.Forms.{form_text, form_tally}
+use Rattle.zknow_forms.specs.declared.tally.Tally.{Tally}
 use Rattle.zknow_runs.specs.declared.rows.Chosen.{Chosen}
 use Rattle.zknow_runs.specs.declared.rows.Next.{Next}
 use Rattle.zknow_runs.specs.declared.rows.ReadStep.{ReadStep}
@@ -76,6 +76,10 @@ next_run (Some n) = n.run ∷ []
 abbrev pub left_runs : Rows → List Run
 left_runs rows = next_run rows.next ++ rows.runs
 
+-- the octets that were not handed out
+abbrev pub kept_octets : Rows → List ℕ
+kept_octets rows = rows.octets.items
+
 -- ---- files by their numbers, each with its octets if they are known; the facts that are wanted of those that are
 -- known; and what holds if there is a file whose octets are not known
 module _ (files : ℕ → Option (List ℕ)) (wanted : Fact → Type 0) (unknown : Type 0) where
@@ -131,8 +135,8 @@ module _ (files : ℕ → Option (List ℕ)) (wanted : Fact → Type 0) (unknown
     pub above : (r : Run) → Contains (left_runs rows) r → IfSome rows.position (λ q. q ≤ℤ r.position)
     pub least : (n : Next) (r : Run) → rows.next ≡ Some n → n.is_due ≡ true → Contains rows.runs r
         → n.run.position ≤ℤ r.position
-    pub written : text ++ rows.octets.items ≡ records_octets t.syntax t.conflicts low
-    pub counted : rows.left ≡ left_out t.syntax t.conflicts low
+    pub written : text ++ kept_octets rows ≡ form_text t.form low
+    pub told : rows.tally ≡ form_tally t.form low
 
   -- so it is for some facts
   abbrev pub Holds : Taking → List ℕ → Rows → Type 0
@@ -146,19 +150,19 @@ module _ (files : ℕ → Option (List ℕ)) (wanted : Fact → Type 0) (unknown
 
   -- ---- the end
 
-  -- these are the octets and the counts of all that was given
-  pub record AreRows (t : Taking) (text : List ℕ) (left : LeftOut) : Type 0 where
+  -- these are the text and the tally of all that was given
+  pub record AreRows (t : Taking) (text : List ℕ) (told : Tally) : Type 0 where
     pub given : List Fact
     pub are : AreGiven t.chosen given
-    pub octets : text ≡ records_octets t.syntax t.conflicts given
-    pub counts : left ≡ left_out t.syntax t.conflicts given
+    pub octets : text ≡ form_text t.form given
+    pub tally : told ≡ form_tally t.form given
 
-  -- these octets are a front of those of facts that may be given
+  -- these octets are a front of the text of facts that may be given
   pub record AreRowsFront (t : Taking) (text : List ℕ) : Type 0 where
     pub given : List Fact
     pub rest : List ℕ
     pub are : AreGiven t.chosen given
-    pub octets : text ++ rest ≡ records_octets t.syntax t.conflicts given
+    pub octets : text ++ rest ≡ form_text t.form given
 
 -- ---- what is read next
 
@@ -193,6 +197,6 @@ HoldsOf s t text rows = Holds s.files (Contains s.known) (s.unknown ≡ true) t 
 abbrev pub AfterReadOf : Sources → Taking → List ℕ → Rows → ReadStep → Type 0
 AfterReadOf s t text rows step = AfterRead s.files (Contains s.known) (s.unknown ≡ true) t text rows step
 
--- these are the octets and the counts of all that was given
-abbrev pub AreRowsOf : Sources → Taking → List ℕ → LeftOut → Type 0
-AreRowsOf s t text left = AreRows s.files (Contains s.known) (s.unknown ≡ true) t text left
+-- these are the text and the tally of all that was given
+abbrev pub AreRowsOf : Sources → Taking → List ℕ → Tally → Type 0
+AreRowsOf s t text told = AreRows s.files (Contains s.known) (s.unknown ≡ true) t text told

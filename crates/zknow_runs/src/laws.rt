@@ -1,7 +1,7 @@
 //! Laws of the definitions. Each is the contract of a function that does nothing.
 ghost use Rattle.zknow_runs.specs.RowLaws.{AllRowLaws};
 
-/// What was written is at any time a front of the octets of records that may be given, if each record that is wanted is
+/// What was written is at any time a front of the text of records that may be given, if each record that is wanted is
 /// one of those that are taken.
 pub fn row_laws()
     ensures { AllRowLaws }

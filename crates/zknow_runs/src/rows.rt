@@ -1,17 +1,16 @@
-//! The records of runs by position: what is read next, and the octets of what was read.
+//! The records of runs by position: what is read next, and the text of what was read, in one form.
 ghost use Rattle.std.specs.Prelude.{◌≡◌, ◌++◌, ℕ, [], Some, None, List, IfOk, IfSome, IfNone, OnOk};
 ghost use Rattle.zknow.specs.Facts.{IsFact};
-ghost use Rattle.zknow_runs.specs.Rows.{place_of, is_taken, Sources, AreRunsIn, HoldsOf, AfterReadOf, AreRowsOf, StandNext, IsWantedOf, left_runs};
+ghost use Rattle.zknow_runs.specs.Rows.{place_of, is_taken, Sources, AreRunsIn, HoldsOf, AfterReadOf, AreRowsOf, StandNext, IsWantedOf, left_runs, kept_octets};
 ghost use Rattle.zknow_runs.specs.declared.rows.Taking.{Taking};
 ghost use Rattle.zknow_runs.specs.RowSteps.{rest_of, AfterGathered, AfterPlaced, AfterTaken, HasAppended, HasTurned};
 
 use crate::open_runs::{OpenRun, OpenRuns};
 use crate::run::Run;
 use std::alloc::{AllocError, Global};
-use zber::Oid;
 use zknow::{Fact, Knowledge};
+use zknow_forms::{Form, Tally};
 use zknow_merge::{FirstError, first_fact};
-use zknow_records::{LeftOut, write_records};
 
 /// Whose records are taken.
 #[derive(Drop)]
@@ -22,14 +21,11 @@ pub struct Chosen {
     pub others: bool,
 }
 
-/// Which records are taken.
+/// Which records are taken, and the form of their text.
 #[derive(Drop)]
 pub struct Taking {
     pub chosen: Chosen,
-    /// Their record syntax, or none for any.
-    pub syntax: Option<Oid>,
-    /// Whether all records of a position that has several are taken. If not, none of them is.
-    pub conflicts: bool,
+    pub form: Form,
 }
 
 /// The run of which a record is read next.
@@ -74,10 +70,10 @@ pub struct Rows {
     /// The records at the position.
     gathered: Knowledge,
     position: Option<i64>,
-    /// The octets of the records at lower positions that were not handed out.
+    /// The octets of the text of the records at lower positions that were not handed out.
     octets: Vec<u8>,
-    /// What was left out of the records at lower positions.
-    left: LeftOut,
+    /// What is told of the records at lower positions.
+    tally: Tally,
 }
 
 /// Returns the target and the position of a record's fact, `None` for another fact.
@@ -139,7 +135,7 @@ impl Rows {
             gathered: Knowledge::new(alloc),
             position: None,
             octets: Vec::new(alloc),
-            left: LeftOut::default(),
+            tally: Tally::default(),
         })
     }
 
@@ -198,8 +194,8 @@ impl Rows {
     ///
     /// Returns `Unfinished` if there is no whole record; nothing was taken. Returns `Changed` if there is none,
     /// whatever comes behind the octets, or if the record goes beyond the run, is at another position, or is not to be
-    /// taken. Returns `AllocError` if no memory is found, or if 2^64 records are left out. After these two, nothing
-    /// holds of the rows.
+    /// taken. Returns `AllocError` if no memory is found, or if a count of the tally passes 64 bits. After these two,
+    /// nothing holds of the rows.
     pub fn read(&mut self, octets: &[u8]) -> Result<ReadStep, AllocError>
         ensures { IfOk result (λ step. (s : Sources) (t : Taking) (text : List ℕ)
             → StandNext s.files self.old octets.now → HoldsOf s t text self.old → AfterReadOf s t text self.new step) }
@@ -286,22 +282,19 @@ impl Rows {
         Ok(())
     }
 
-    /// Appends the octets of the records that were gathered, and counts what is left out of them.
+    /// Appends the text of the records that were gathered, and adds what is told of them.
     fn append(&mut self) -> Result<(), AllocError>
         ensures { OnOk result (HasAppended self.old self.new) }
     {
-        let left = write_records(
-            self.alloc,
-            &self.gathered,
-            self.taking.syntax.as_ref(),
-            self.taking.conflicts,
-            &mut self.octets,
-        )?;
+        let more = self
+            .taking
+            .form
+            .write(self.alloc, &self.gathered, &mut self.octets)?;
         self.gathered = Knowledge::new(self.alloc);
-        match self.left.checked_add(left) {
+        match self.tally.checked_add(more) {
             None => Err(AllocError),
             Some(sum) => {
-                self.left = sum;
+                self.tally = sum;
                 Ok(())
             }
         }
@@ -309,7 +302,7 @@ impl Rows {
 
     /// Returns the octets that were not handed out.
     pub fn octets(&self) -> &[u8]
-        ensures { result.now ≡ self.now.octets.items }
+        ensures { result.now ≡ kept_octets self.now }
     {
         self.octets.as_slice()
     }
@@ -317,13 +310,14 @@ impl Rows {
     /// Notes that the octets were handed out.
     pub fn hand_out(&mut self)
         ensures { (s : Sources) (t : Taking) (text : List ℕ) → HoldsOf s t text self.old
-            → HoldsOf s t (text ++ self.old.octets.items) self.new }
+            → HoldsOf s t (text ++ kept_octets self.old) self.new }
     {
         self.octets.clear();
     }
 
-    /// Returns the octets that were not handed out, of the last records too, and what was left out of all records.
-    pub fn finish(mut self) -> Result<(Vec<u8>, LeftOut), AllocError>
+    /// Returns the octets that were not handed out, of the last records too, and what is told of all records. Returns
+    /// `AllocError` if no memory is found, or if a count of the tally passes 64 bits.
+    pub fn finish(mut self) -> Result<(Vec<u8>, Tally), AllocError>
         ensures { IfOk result (λ r. (s : Sources) (t : Taking) (text : List ℕ) → HoldsOf s t text self
             → left_runs self ≡ [] → AreRowsOf s t (text ++ r.0.items) r.1) }
     {
@@ -336,8 +330,8 @@ impl Rows {
             gathered: _,
             position: _,
             octets,
-            left,
+            tally,
         } = self;
-        Ok((octets, left))
+        Ok((octets, tally))
     }
 }

@@ -14,7 +14,8 @@ use Rattle.zoom.specs.Limits.{Limits}
 use Rattle.zmeta_commands.specs.Choice.{AreLimits, manner_of}
 use Rattle.zmeta_catalogue_files.specs.Conversions.{AfterWorldOf, AfterCataloguesOf}
 use Rattle.zmeta_catalogue_files.specs.Listing.{AfterCatalogues}
-use Rattle.zmeta_offline.specs.Join.{AfterJoin, AfterJoinSaved}
+use Rattle.zmeta_offline.specs.Join.{AfterJoinSaved}
+use Rattle.zmeta_offline.specs.Joined.{AfterJoin}
 use Rattle.zmeta_offline.specs.Merged.{AfterMerge}
 use Rattle.zmeta_commands.specs.Loop.{AfterLoop}
 use Rattle.zmeta_offline.specs.Pqf.{AfterPqf}

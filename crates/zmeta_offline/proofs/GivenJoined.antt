@@ -1,18 +1,21 @@
--- What is given of saved files is what they have together. A file whose octets are not known may have any facts, so
--- that its records are those that are given.
+-- What is given of saved files, and their facts that are no records, are what they have together. A file whose octets
+-- are not known may have any facts, so that its records are those that are given.
 use Rattle.std.proofs.Common.{◌≡◌, ◌⊎◌, ◌↔◌, ℕ, Bool, true, false, not, List, [], ◌∷◌, ◌++◌, Option, Some, None, refl, sym, subst, ◌∙◌, inl, inr, ⊎_elim}
-use Rattle.std.specs.Prelude.{Contains, IfSome}
+use Rattle.std.specs.Prelude.{Contains, IfSome, slice_get}
 use Rattle.std.specs.Option.{IsSome}
 use Rattle.zapdu.specs.declared.productions.record.Record.{Record}
 use Rattle.zknow.specs.declared.fact.Fact.{Fact}
 use Rattle.zknow.specs.declared.fact.Fact.TheVariants.{Count, Failed, Seen, Diag}
 use Rattle.zknow.specs.declared.tables.keys.RowKey.{RowKey}
-use Rattle.zknow.specs.Facts.{fact_cmp, AreFacts}
+use Rattle.zknow.specs.FactLaws.{same_facts}
+use Rattle.zknow.specs.Facts.{fact_cmp, fact_target, AreFacts}
 use Rattle.zknow.specs.Known.{HasFailure}
+use Rattle.zknow.specs.List.Listing.{block_key_of, row_key_of}
 use Rattle.zknow.specs.Saved.Saved.{IsSaved, IsWithinLimits}
 use Rattle.zknow.specs.Saved.SavedFacts.{saved_fact}
 use Rattle.zknow.specs.Tables.DistinctLaws.{none_in_nil, in_cons, each_in}
 use Rattle.zknow.proofs.TableTheory.InSections.{all_from}
+use Rattle.zknow_forms.specs.Forms.{AreOthers, AreInParts}
 use Rattle.zknow_records.specs.Parts.{HasRecord, AreParts}
 use Rattle.zknow_records.specs.Records.{records_octets, left_out}
 use Rattle.zknow_records.proofs.PartTheory.{octets_in_parts, left_in_parts}
@@ -20,9 +23,9 @@ use Rattle.zknow_runs.specs.Placed.{IsKnownTaken}
 use Rattle.zknow_runs.specs.Rows.{AreGiven}
 use Rattle.zknow_runs.specs.declared.rows.Chosen.{Chosen}
 use Rattle.zknow_runs.proofs.UnionTheory.{Joined, union_of, Kept, kept_of, DoFit, fits_agree, no_facts}
-use Rattle.zmeta_offline.specs.Catalogues.{is_of_chosen, IsOfCatalogues}
+use Rattle.zmeta_offline.specs.Catalogues.{is_chosen, is_of_chosen, IsOfCatalogues}
 use Rattle.zmeta_offline.specs.Join.{AreJoined}
-use Rattle.zmeta_offline.specs.Marked.{AreSavedEach, AreChosen, file_at, HasUnknown, HasChosenFailure}
+use Rattle.zmeta_offline.specs.Marked.{AreSavedEach, AreChosen, AreOthersOf, file_at, HasUnknown, HasChosenFailure}
 use Rattle.zmeta_offline.proofs.MarkedSources.{taken_if, if_taken, AmongKnown, known_at, at_known, known_fits}
 use Rattle.zmeta_offline.proofs.SavedEach.{IsAmong, among_cons, JoinedAs, joined_each}
 
@@ -197,9 +200,10 @@ module _ (octets : List ℕ → Option (List ℕ)) (names : List (List ℕ)) (gi
 -- ---- what is given
 
 -- The facts about the chosen catalogues that the files have together have the records that are given. They say that a
--- search or an association failed exactly if what was found in the files says so.
+-- search or an association failed exactly if what was found in the files says so. They are those that are no records,
+-- and what is given. If no catalogues are named, they are all facts.
 pub record IsGivenOf (octets : List ℕ → Option (List ℕ)) (names paths only : List (List ℕ))
-    (theirs : List (List Fact)) (given : List Fact) : Type 0 where
+    (theirs : List (List Fact)) (c : Chosen) (given : List Fact) : Type 0 where
   pub all : List Fact
   pub joined : AreJoined octets names paths all
   pub facts : List Fact
@@ -209,6 +213,27 @@ pub record IsGivenOf (octets : List ℕ → Option (List ℕ)) (names paths only
   pub left : (asked : Option (List ℕ)) (conflicts : Bool)
       → left_out asked conflicts facts ≡ left_out asked conflicts given
   pub failed : HasFailure facts ↔ HasChosenFailure octets paths only names theirs
+  pub parts : (low : List Fact) → AreOthersOf c theirs low → AreInParts low given facts
+  pub whole : only ≡ [] → facts ≡ all
+
+-- if no catalogues are named, each is chosen
+any_chosen : (name : Option (List ℕ)) → is_chosen [] name ≡ true
+any_chosen None = refl
+any_chosen (Some name) = refl
+
+all_chosen : (only names : List (List ℕ)) (f : Fact) → only ≡ [] → is_of_chosen only names f ≡ true
+all_chosen only names f none = rw none (any_chosen (slice_get names (fact_target f)))
+
+-- a fact without a row has no record
+no_row : (f : Fact) → row_key_of f ≡ None → not (is_record f) ≡ true
+no_row (Count t s n) none = refl
+no_row (Failed t s) none = refl
+no_row (Seen t s p r) none = absurd cc
+no_row (Diag t s p d) none = refl
+
+-- these are no records
+pub others_are : (c : Chosen) (theirs : List (List Fact)) (low : List Fact) → AreOthersOf c theirs low → AreOthers low
+others_are c theirs low of f h = ((of.members f).0 h).1
 
 module _ (octets : List ℕ → Option (List ℕ)) (names : List (List ℕ)) (path : List ℕ) (others : List (List ℕ))
     (theirs : List (List Fact)) (saved : AreSavedEach octets names (path ∷ others) theirs) (only : List (List ℕ))
@@ -292,7 +317,60 @@ module _ (octets : List ℕ → Option (List ℕ)) (names : List (List ℕ)) (pa
     ),
   )
 
-  pub given_of : IsGivenOf octets names paths only theirs given
+  -- ---- the facts in parts
+
+  module _ (low : List Fact) (of_low : AreOthersOf c theirs low) where
+    other_part : (f : Fact) → row_key_of f ≡ None → Contains facts_of.0 f → Contains low f ⊎ Contains given f
+    other_part f none h =
+        let has = (has_fact f).0 h in
+        ⊎_elim (λ a. inl ((of_low.members f).1 (a, none, of_chosen (fact_target f) ∙ has.1))) inr
+        (instead_was octets names given are.lawful given_fit paths theirs f has.0)
+
+    in_parts : (f : Fact) → Contains facts_of.0 f → Contains low f ⊎ Contains given f
+    in_parts (Count t s n) h = other_part (Count t s n) refl h
+    in_parts (Failed t s) h = other_part (Failed t s) refl h
+    in_parts (Seen t s p r) h = inr (given_record t s p r h)
+    in_parts (Diag t s p d) h = other_part (Diag t s p d) refl h
+
+    low_in : (f : Fact) → Contains low f → Contains facts_of.0 f
+    low_in f h =
+        let m = (of_low.members f).0 h in
+        (has_fact f).1 (
+          other_instead octets names given are.lawful given_fit paths theirs saved f (no_row f m.1) m.0,
+          sym (of_chosen (fact_target f)) ∙ m.2,
+        )
+
+    given_in : (f : Fact) → Contains given f → Contains facts_of.0 f
+    given_in (Count t s n) g = let seen = (are.sound (Count t s n) g).0.seen in absurd cc
+    given_in (Failed t s) g = absurd (no_failure t s g)
+    given_in (Seen t s p r) g = record_given t s p r g
+    given_in (Diag t s p d) g = let seen = (are.sound (Diag t s p d) g).0.seen in absurd cc
+
+    given_blocks : (f : Fact) → Contains given f → block_key_of f ≡ None
+    given_blocks (Count t s n) g = let seen = (are.sound (Count t s n) g).0.seen in absurd cc
+    given_blocks (Failed t s) g = absurd (no_failure t s g)
+    given_blocks (Seen t s p r) g = refl
+    given_blocks (Diag t s p d) g = let seen = (are.sound (Diag t s p d) g).0.seen in absurd cc
+
+    no_record : (k : RowKey) (r : Record) → HasRecord low k r → ⊥
+    no_record k r h = let none = ((of_low.members (Seen k.target k.set k.position r)).0 h).1 in cc
+
+    parts_of : AreInParts low given facts_of.0
+    parts_of = record {
+      low_facts = of_low.lawful;
+      high_facts = are.lawful;
+      all_facts = facts_of.1;
+      union = λ f. (in_parts f, ⊎_elim (low_in f) (given_in f));
+      records = given_blocks;
+      apart = λ k q r s h there. absurd (no_record k r h);
+    }
+
+  whole_of : only ≡ [] → facts_of.0 ≡ all_of.0
+  whole_of none =
+      same_facts facts_of.0 all_of.0 facts_of.1 all_of.2
+      (λ f. (λ h. ((facts_of.2 f).0 h).0, λ h. (facts_of.2 f).1 (h, all_chosen only names f none)))
+
+  pub given_of : IsGivenOf octets names paths only theirs c given
   given_of = record {
     all = all_of.0;
     joined = all_of.1;
@@ -301,4 +379,6 @@ module _ (octets : List ℕ → Option (List ℕ)) (names : List (List ℕ)) (pa
     records = λ asked conflicts. octets_same asked conflicts facts_of.0 given facts_of.1 are.lawful records_same;
     left = λ asked conflicts. left_same asked conflicts facts_of.0 given facts_of.1 are.lawful records_same;
     failed = (has_failed, failed_has);
+    parts = parts_of;
+    whole = whole_of;
   }

@@ -11,6 +11,7 @@ mod Changing
 mod NewsTheory
 pub mod SameViewing
 pub mod SavedEach
+pub mod NotingOthers
 pub mod Noting
 pub mod Scanning
 pub mod ScanningAll
@@ -19,4 +20,5 @@ pub mod GivenJoined
 pub mod MarkedTheory
 pub mod Keeping
 pub mod Streaming
+pub mod JoinedTheory
 pub mod Writing

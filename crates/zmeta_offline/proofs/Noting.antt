@@ -9,6 +9,7 @@ use Rattle.std.proofs.lemmas.List.Folds.{list_any-append}
 use Rattle.zknow.specs.declared.fact.Fact.{Fact}
 use Rattle.zknow.specs.declared.fact.Fact.TheVariants.{Count, Failed, Seen, Diag}
 use Rattle.zknow.specs.Facts.{fact_kind, fact_target, fact_number}
+use Rattle.zknow.specs.List.Listing.{row_key_of}
 use Rattle.zknow.specs.Saved.Saved.{saved}
 use Rattle.zknow.specs.Tables.DistinctLaws.{none_in_nil, in_cons, in_head, in_tail}
 use Rattle.zknow_merge.specs.Scans.{kind_number, IsPlaceOf}
@@ -24,10 +25,12 @@ use Rattle.zknow_runs.specs.declared.run.RunList.{RunList}
 use Rattle.zknow_runs.proofs.PlacedTheory.{placed_more, all_placed_more}
 use Rattle.zmeta_args.specs.Texts.{texts_of}
 use Rattle.zmeta_offline.specs.Catalogues.{is_chosen}
-use Rattle.zmeta_offline.specs.Marked.{AreChosen, HasChosenFailure}
+use Rattle.zmeta_offline.specs.Marked.{AreChosen, AreNoted, AreOthersOf, HasChosenFailure}
 use Rattle.zmeta_offline.specs.Names.{is_picked}
-use Rattle.zmeta_offline.specs.Scanned.{is_failure, has_failure, AreMarks}
+use Rattle.zmeta_offline.specs.Scanned.{is_failure, has_failure, AreMarks, HasAdded}
+use Rattle.zmeta_offline.specs.declared.scanned.First.{First}
 use Rattle.zmeta_offline.specs.declared.scanned.Marks.{Marks}
+use Rattle.zmeta_offline.proofs.NotingOthers.{none_noted, file_noted, others_same, others_more}
 
 -- ---- whose records are taken
 
@@ -188,6 +191,27 @@ pub quiet_failure : (kind : FactKind) → (kind ≡ kinds.Count) ⊎ (kind ≡ k
 quiet_failure kind (inl is) = ap fails is
 quiet_failure kind (inr is) = ap fails is
 
+-- whether there is a row, by the kind
+failed_row : (f : Fact) → kind_of f ≡ kinds.Failed → row_key_of f ≡ None
+failed_row (Count t s n) is = refl
+failed_row (Failed t s) is = refl
+failed_row (Seen t s p r) is = absurd (Prim.cc is)
+failed_row (Diag t s p d) is = refl
+
+quiet_row : (f : Fact) (kind : FactKind) → kind ≡ kind_of f → (kind ≡ kinds.Count) ⊎ (kind ≡ kinds.Diagnostic)
+    → row_key_of f ≡ None
+quiet_row (Count t s n) kind is quiet = refl
+quiet_row (Failed t s) kind is quiet = refl
+quiet_row (Seen t s p r) kind is (inl count) = absurd (Prim.cc (sym is ∙ count))
+quiet_row (Seen t s p r) kind is (inr diag) = absurd (Prim.cc (sym is ∙ diag))
+quiet_row (Diag t s p d) kind is quiet = refl
+
+record_row : (f : Fact) → kind_of f ≡ kinds.Record → row_key_of f ≡ None → ⊥
+record_row (Count t s n) is none = absurd (Prim.cc is)
+record_row (Failed t s) is none = absurd (Prim.cc is)
+record_row (Seen t s p r) is none = absurd (Prim.cc none)
+record_row (Diag t s p d) is none = absurd (Prim.cc is)
+
 pub on_ok : {A E : Type 0} (r : Result A E) (P Q : Type 0) → (P → Q) → OnOk r P → OnOk r Q
 on_ok (Ok a) P Q f h = f h
 on_ok (Err e) P Q f h = tt
@@ -210,99 +234,133 @@ any_more : {X : Type 0} (p : X → Bool) (xs : List X) (x : X) → list_any p (x
 any_more p xs x = list_any-append p xs (x ∷ []) ∙ ap (λ (b : Bool). list_any p xs || b) (or_false (p x))
 
 -- nothing was noted yet
-pub marks_new : (c : Chosen) (names own : List (List ℕ)) (m : Marks) → HoldsRuns [] m.runs → m.failed ≡ false
-    → AreMarks c names [] own [] m
-marks_new c names own m none calm = record { runs = none; failed = calm }
+pub marks_new : (first : First) (own : List (List ℕ)) (m : Marks) → HoldsRuns [] m.runs → m.failed ≡ false
+    → m.others ≡ [] → AreMarks first [] own [] m
+marks_new first own m none calm empty =
+    record { runs = none; failed = calm; others = λ noted. none_noted first.chosen m.others empty }
 
-module _ (c : Chosen) (names : List (List ℕ)) (theirs : List (List Fact)) where
+module _ (first : First) (theirs : List (List Fact)) where
   -- nothing was noted of a further file
-  pub marks_begun : (own : List (List ℕ)) (m : Marks) → AreMarks c names theirs names [] m
-      → AreMarks c names theirs own [] m
-  marks_begun own m h = record { runs = h.runs; failed = h.failed }
+  pub marks_begun : (own : List (List ℕ)) (m : Marks) → AreMarks first theirs first.names [] m
+      → AreMarks first theirs own [] m
+  marks_begun own m h = record { runs = h.runs; failed = h.failed; others = h.others }
 
   -- one fact more was noted
-  pub marks_more : (own : List (List ℕ)) (facts : List Fact) (f : Fact) (k : ℕ) (p : FactPlace) (taken : Bool)
-      (old new : Marks) → k ≡ length theirs → IsPlaceOf own facts f p → taken ≡ is_taken c p.target
-      → ((records : List Run) → HoldsRuns records old.runs
-      → HoldsRuns (records ++ runs_noted taken p.kind (place_run k p)) new.runs)
-      → new.failed ≡ (old.failed || failure_noted taken p.kind)
-      → AreMarks c names theirs own facts old → AreMarks c names theirs own (facts ++ f ∷ []) new
-  marks_more own facts f k p taken old new count is by put failed h =
-      let before : List Run = all_placed c names 0 theirs in
-      let there : List Run = placed c own (length theirs) [] facts in
-      let noted : List Run = runs_noted taken p.kind (place_run k p) in
-      let same : noted ≡ runs_at c own (length theirs) facts f (place_of f) =
-      ap (λ (b : Bool). runs_noted b p.kind (place_run k p)) by
-      ∙ ap (λ (n : ℕ). runs_noted (is_taken c p.target) p.kind (place_run n p)) count
-      ∙ noted_runs c own (length theirs) facts f p is in
-      let lined : (before ++ there) ++ noted ≡ before ++ placed c own (length theirs) [] (facts ++ f ∷ []) =
-      append_assoc before there noted
-      ∙ ap (λ (rs : List Run). before ++ (there ++ rs)) same
-      ∙ ap (λ (rs : List Run). before ++ rs) (sym (placed_more c own (length theirs) [] facts f)) in
-      let one : failure_noted taken p.kind ≡ is_failure c f =
-      ap (λ (b : Bool). failure_noted b p.kind) by ∙ noted_failure c own k facts f p is in
-      record {
-        runs = subst (λ (rs : List Run). HoldsRuns rs new.runs) lined (put (before ++ there) h.runs);
-        failed = failed
-            ∙ ap (λ (b : Bool). b || failure_noted taken p.kind) h.failed
-            ∙ ap (λ (b : Bool). (list_any (has_failure c) theirs || has_failure c facts) || b) one
-            ∙ or_assoc (list_any (has_failure c) theirs) (has_failure c facts) (is_failure c f)
-            ∙ ap (λ (b : Bool). list_any (has_failure c) theirs || b) (sym (any_more (is_failure c) facts f));
-      }
+  module _ (own : List (List ℕ)) (facts : List Fact) (f : Fact) (k : ℕ) (p : FactPlace) (count : k ≡ length theirs)
+      (is : IsPlaceOf own facts f p) where
+    marks_more : (taken : Bool) (old new : Marks) → taken ≡ is_taken first.chosen p.target
+        → ((records : List Run) → HoldsRuns records old.runs
+        → HoldsRuns (records ++ runs_noted taken p.kind (place_run k p)) new.runs)
+        → new.failed ≡ (old.failed || failure_noted taken p.kind)
+        → (AreOthersOf first.chosen (facts ∷ theirs) old.others → AreNoted first.noting
+        → AreOthersOf first.chosen ((facts ++ f ∷ []) ∷ theirs) new.others)
+        → AreMarks first theirs own facts old → AreMarks first theirs own (facts ++ f ∷ []) new
+    marks_more taken old new by put failed added h =
+        let c : Chosen = first.chosen in
+        let before : List Run = all_placed c first.names 0 theirs in
+        let there : List Run = placed c own (length theirs) [] facts in
+        let noted : List Run = runs_noted taken p.kind (place_run k p) in
+        let same : noted ≡ runs_at c own (length theirs) facts f (place_of f) =
+        ap (λ (b : Bool). runs_noted b p.kind (place_run k p)) by
+        ∙ ap (λ (n : ℕ). runs_noted (is_taken c p.target) p.kind (place_run n p)) count
+        ∙ noted_runs c own (length theirs) facts f p is in
+        let lined : (before ++ there) ++ noted ≡ before ++ placed c own (length theirs) [] (facts ++ f ∷ []) =
+        append_assoc before there noted
+        ∙ ap (λ (rs : List Run). before ++ (there ++ rs)) same
+        ∙ ap (λ (rs : List Run). before ++ rs) (sym (placed_more c own (length theirs) [] facts f)) in
+        let one : failure_noted taken p.kind ≡ is_failure c f =
+        ap (λ (b : Bool). failure_noted b p.kind) by ∙ noted_failure c own k facts f p is in
+        record {
+          runs = subst (λ (rs : List Run). HoldsRuns rs new.runs) lined (put (before ++ there) h.runs);
+          failed = failed
+              ∙ ap (λ (b : Bool). b || failure_noted taken p.kind) h.failed
+              ∙ ap (λ (b : Bool). (list_any (has_failure c) theirs || has_failure c facts) || b) one
+              ∙ or_assoc (list_any (has_failure c) theirs) (has_failure c facts) (is_failure c f)
+              ∙ ap (λ (b : Bool). list_any (has_failure c) theirs || b) (sym (any_more (is_failure c) facts f));
+          others = λ noted. added (h.others noted) noted;
+        }
 
-  -- nothing was to be noted of a fact
-  pub marks_same : (own : List (List ℕ)) (facts : List Fact) (f : Fact) (k : ℕ) (p : FactPlace) (taken : Bool)
-      (m : Marks) → k ≡ length theirs → IsPlaceOf own facts f p → taken ≡ is_taken c p.target
-      → runs_noted taken p.kind (place_run k p) ≡ [] → failure_noted taken p.kind ≡ false
-      → AreMarks c names theirs own facts m → AreMarks c names theirs own (facts ++ f ∷ []) m
-  marks_same own facts f k p taken m count is by none calm h =
-      marks_more own facts f k p taken m m count is by
-      (λ records holds. subst (λ (rs : List Run). HoldsRuns rs m.runs)
-      (sym (ap (λ (rs : List Run). records ++ rs) none ∙ append-nil records)) holds)
-      (sym (ap (λ (b : Bool). m.failed || b) calm ∙ or_false m.failed)) h
+    -- no run was noted
+    no_run : (taken : Bool) (old new : RunList) → runs_noted taken p.kind (place_run k p) ≡ [] → new ≡ old
+        → (records : List Run) → HoldsRuns records old
+        → HoldsRuns (records ++ runs_noted taken p.kind (place_run k p)) new
+    no_run taken old new none same records holds =
+        subst (λ (l : RunList). HoldsRuns (records ++ runs_noted taken p.kind (place_run k p)) l) (sym same)
+        (subst (λ (rs : List Run). HoldsRuns rs old)
+        (sym (ap (λ (rs : List Run). records ++ rs) none ∙ append-nil records)) holds)
 
-  -- a failure was noted
-  pub marks_failed : (own : List (List ℕ)) (facts : List Fact) (f : Fact) (k : ℕ) (p : FactPlace) (old new : Marks)
-      → k ≡ length theirs → IsPlaceOf own facts f p → true ≡ is_taken c p.target → p.kind ≡ kinds.Failed
-      → new.runs ≡ old.runs → new.failed ≡ true
-      → AreMarks c names theirs own facts old → AreMarks c names theirs own (facts ++ f ∷ []) new
-  marks_failed own facts f k p old new count is by kind same failed h =
-      let none : kind_runs p.kind (place_run k p) ≡ [] =
-      ap (λ (x : FactKind). kind_runs x (place_run k p)) kind in
-      let so : fails p.kind ≡ true = ap fails kind in
-      marks_more own facts f k p true old new count is by
-      (λ records holds. subst (λ (l : RunList). HoldsRuns (records ++ kind_runs p.kind (place_run k p)) l) (sym same)
-      (subst (λ (rs : List Run). HoldsRuns rs old.runs)
-      (sym (ap (λ (rs : List Run). records ++ rs) none ∙ append-nil records)) holds))
-      (failed ∙ sym (ap (λ (b : Bool). old.failed || b) so ∙ or_true old.failed)) h
+    -- it is one of a catalogue that is not chosen
+    pub marks_same : (m : Marks) → false ≡ is_taken first.chosen p.target
+        → AreMarks first theirs own facts m → AreMarks first theirs own (facts ++ f ∷ []) m
+    marks_same m by h =
+        marks_more false m m by (no_run false m.runs m.runs refl refl) (sym (or_false m.failed))
+        (λ others noted. others_same first.chosen theirs facts f m.others
+        (λ row taken. absurd (Prim.cc (by ∙ ap (is_taken first.chosen) is.fact.target ∙ taken))) others) h
 
-  -- a record was noted
-  pub marks_record : (own : List (List ℕ)) (facts : List Fact) (f : Fact) (k : ℕ) (p : FactPlace) (old new : Marks)
-      → k ≡ length theirs → IsPlaceOf own facts f p → true ≡ is_taken c p.target → p.kind ≡ kinds.Record
-      → ((records : List Run) → HoldsRuns records old.runs → HoldsRuns (records ++ place_run k p ∷ []) new.runs)
-      → new.failed ≡ old.failed
-      → AreMarks c names theirs own facts old → AreMarks c names theirs own (facts ++ f ∷ []) new
-  marks_record own facts f k p old new count is by kind put same h =
-      let one : kind_runs p.kind (place_run k p) ≡ place_run k p ∷ [] =
-      ap (λ (x : FactKind). kind_runs x (place_run k p)) kind in
-      let calm : fails p.kind ≡ false = ap fails kind in
-      marks_more own facts f k p true old new count is by
-      (λ records holds. subst (λ (rs : List Run). HoldsRuns (records ++ rs) new.runs) (sym one) (put records holds))
-      (same ∙ sym (ap (λ (b : Bool). old.failed || b) calm ∙ or_false old.failed)) h
+    module _ (by : true ≡ is_taken first.chosen p.target) where
+      its_taken : is_taken first.chosen (fact_target f) ≡ true
+      its_taken = sym (by ∙ ap (is_taken first.chosen) is.fact.target)
+
+      -- it was added to the facts that are no records
+      added_one : (old new : List Fact) → (row_key_of f ≡ None) → (AreNoted first.noting → HasAdded f old new)
+          → AreOthersOf first.chosen (facts ∷ theirs) old → AreNoted first.noting
+          → AreOthersOf first.chosen ((facts ++ f ∷ []) ∷ theirs) new
+      added_one old new row added others noted =
+          others_more first.chosen theirs facts f old new row its_taken (added noted) others
+
+      -- it is a count or a diagnostic
+      pub marks_quiet : (old new : Marks) → (p.kind ≡ kinds.Count) ⊎ (p.kind ≡ kinds.Diagnostic)
+          → new.runs ≡ old.runs → new.failed ≡ old.failed
+          → (AreNoted first.noting → HasAdded f old.others new.others)
+          → AreMarks first theirs own facts old → AreMarks first theirs own (facts ++ f ∷ []) new
+      marks_quiet old new quiet same calm added h =
+          marks_more true old new by
+          (no_run true old.runs new.runs (quiet_runs p.kind (place_run k p) quiet) same)
+          (calm ∙ sym (ap (λ (b : Bool). old.failed || b) (quiet_failure p.kind quiet) ∙ or_false old.failed))
+          (added_one old.others new.others (quiet_row f p.kind (kind_is p.kind f is.fact.kind) quiet) added) h
+
+      -- it is a failure
+      pub marks_failed : (old new : Marks) → p.kind ≡ kinds.Failed → new.runs ≡ old.runs → new.failed ≡ true
+          → (AreNoted first.noting → HasAdded f old.others new.others)
+          → AreMarks first theirs own facts old → AreMarks first theirs own (facts ++ f ∷ []) new
+      marks_failed old new kind same failed added h =
+          marks_more true old new by
+          (no_run true old.runs new.runs (ap (λ (x : FactKind). kind_runs x (place_run k p)) kind) same)
+          (failed ∙ sym (ap (λ (b : Bool). old.failed || b) (ap fails kind) ∙ or_true old.failed))
+          (added_one old.others new.others (failed_row f (sym (kind_is p.kind f is.fact.kind) ∙ kind)) added) h
+
+      -- it is a record
+      pub marks_record : (old new : Marks) → p.kind ≡ kinds.Record
+          → ((records : List Run) → HoldsRuns records old.runs → HoldsRuns (records ++ place_run k p ∷ []) new.runs)
+          → new.failed ≡ old.failed → new.others ≡ old.others
+          → AreMarks first theirs own facts old → AreMarks first theirs own (facts ++ f ∷ []) new
+      marks_record old new kind put same kept h =
+          let one : kind_runs p.kind (place_run k p) ≡ place_run k p ∷ [] =
+          ap (λ (x : FactKind). kind_runs x (place_run k p)) kind in
+          let calm : fails p.kind ≡ false = ap fails kind in
+          marks_more true old new by
+          (λ records holds. subst (λ (rs : List Run). HoldsRuns (records ++ rs) new.runs) (sym one)
+          (put records holds))
+          (same ∙ sym (ap (λ (b : Bool). old.failed || b) calm ∙ or_false old.failed))
+          (λ others noted. subst (AreOthersOf first.chosen ((facts ++ f ∷ []) ∷ theirs)) (sym kept)
+          (others_same first.chosen theirs facts f old.others
+          (λ row taken. record_row f (sym (kind_is p.kind f is.fact.kind) ∙ kind) row) others)) h
 
   -- all facts of a file with the same names were noted
-  pub marks_all : (facts : List Fact) (m : Marks) → AreMarks c names theirs names facts m
-      → AreMarks c names (theirs ++ facts ∷ []) names [] m
+  pub marks_all : (facts : List Fact) (m : Marks) → AreMarks first theirs first.names facts m
+      → AreMarks first (theirs ++ facts ∷ []) first.names [] m
   marks_all facts m h =
-      let all : List Run = all_placed c names 0 (theirs ++ facts ∷ []) in
-      let before : List Run = all_placed c names 0 theirs in
+      let c : Chosen = first.chosen in
+      let all : List Run = all_placed c first.names 0 (theirs ++ facts ∷ []) in
+      let before : List Run = all_placed c first.names 0 theirs in
       let count : length theirs ≡ 0 + length theirs = omega arith in
       record {
         runs = subst (λ (rs : List Run). HoldsRuns rs m.runs)
-            (ap (λ (n : ℕ). before ++ placed c names n [] facts) count
-            ∙ sym (all_placed_more c names 0 theirs facts) ∙ sym (append-nil all)) h.runs;
+            (ap (λ (n : ℕ). before ++ placed c first.names n [] facts) count
+            ∙ sym (all_placed_more c first.names 0 theirs facts) ∙ sym (append-nil all)) h.runs;
         failed = h.failed ∙ sym (any_more (has_failure c) theirs facts)
             ∙ sym (or_false (list_any (has_failure c) (theirs ++ facts ∷ [])));
+        others = λ noted. file_noted c theirs facts m.others (h.others noted);
       }
 
 -- ---- failures

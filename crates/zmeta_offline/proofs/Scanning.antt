@@ -30,7 +30,7 @@ use Rattle.zknow_merge.specs.declared.scan.ScanStep.TheVariants as steps
 use Rattle.zmeta_devices.specs.Devices.{InputDevice}
 use Rattle.zmeta_devices.specs.Faults.{of_load}
 use Rattle.zmeta_devices.specs.declared.fault.Fault.{Fault}
-use Rattle.zmeta_devices.specs.declared.fault.Fault.TheVariants.{Read, Memory}
+use Rattle.zmeta_devices.specs.declared.fault.Fault.TheVariants.{Read}
 use Rattle.zmeta_offline.specs.Join.{IsFaultAt}
 use Rattle.zmeta_offline.specs.Marked.{AreChosen, AreSavedEach, file_at, HasUnknown}
 use Rattle.zmeta_offline.specs.Merged.{stream_at}

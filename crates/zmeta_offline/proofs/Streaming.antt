@@ -7,7 +7,7 @@ use Rattle.std.proofs.KnownBytes.{Appends-trans}
 use Rattle.zknow.specs.declared.fact.Fact.{Fact}
 use Rattle.zknow.specs.Known.{HasFailure}
 use Rattle.zknow.specs.Tables.DistinctLaws.{none_in_nil, in_cons}
-use Rattle.zknow_records.specs.declared.left_out.LeftOut.{LeftOut}
+use Rattle.zknow_forms.specs.declared.tally.Tally.{Tally}
 use Rattle.zknow_records.specs.Records.{records_octets, left_out}
 use Rattle.zknow_runs.specs.Rows.{Sources}
 use Rattle.zknow_runs.specs.declared.rows.Taking.{Taking}
@@ -24,9 +24,10 @@ use Rattle.zmeta_offline.specs.Records.{WantedRecords, IsChosenSyntax, SyntaxRes
 use Rattle.zmeta_offline.specs.Rows.{IsOfRuns, IsWritten, IsCutOff, IsStopped, WriteRowsResult}
 use Rattle.zmeta_offline.specs.Streamed.{IsStatusOf, IsBrokenOff, StreamedResult}
 use Rattle.zmeta_offline.specs.declared.scanned.Marked.{Marked}
+use Rattle.zmeta_offline.specs.declared.scanned.Noting.TheVariants.{Failures}
 use Rattle.zmeta_offline.proofs.Extracting.{files_refused}
 use Rattle.zmeta_offline.proofs.Joining.{kept}
-use Rattle.zmeta_offline.proofs.MarkedTheory.{IsMarkedExtract, marked_sources, marked_runs, marked_taken, front_extract, rows_extract}
+use Rattle.zmeta_offline.proofs.MarkedTheory.{marked_sources, marked_runs, marked_taken, taking, IsMarkedExtract, front_extract, rows_extract}
 use Rattle.zmeta_offline.proofs.SavedEach.{joined_each}
 
 -- ---- devices
@@ -55,7 +56,7 @@ gained_stopped old mid new text more a b = record {
 }
 
 -- what stopped in a front stopped in the whole
-stopped_whole : (old new : Device) (text rest all : List ℕ) → all ≡ text ++ rest → HasStopped old new text
+pub stopped_whole : (old new : Device) (text rest all : List ℕ) → all ≡ text ++ rest → HasStopped old new text
     → HasStopped old new all
 stopped_whole old new text rest all cut s = record {
   written = record {
@@ -123,39 +124,39 @@ module _ (e : WantedRecords) (octets : List ℕ → Option (List ℕ)) (paths : 
   no_memory f r is of = rw (is, of) (inl none_written)
 
   -- a file, or a name, is refused in the first pass
-  not_marked : (f : Fault) → ScanFilesResult octets paths e.only (Err f)
+  not_marked : (f : Fault) → ScanFilesResult octets paths e.only Failures (Err f)
       → StreamedResult e octets paths before before (Err f)
   not_marked (NoCatalogue told) h = inl (h, none_written)
   not_marked Memory h = inl none_written
   not_marked f h = inl (files_refused e octets paths before f f (Err f) refl refl h)
 
   pub scan_refused : (g f : Fault) (r : Result Status Fault) → r ≡ Err f → f ≡ g
-      → ScanFilesResult octets paths e.only (Err g) → StreamedResult e octets paths before before r
+      → ScanFilesResult octets paths e.only Failures (Err g) → StreamedResult e octets paths before before r
   scan_refused g f r is of h = rw (is, of) (not_marked g h)
 
 module _ (e : WantedRecords) (octets : List ℕ → Option (List ℕ)) (path : List ℕ) (others : List (List ℕ))
-    (before : Outputs) (m : Marked) (marked : AreMarked octets (path ∷ others) e.only m) (oid : Option (List ℕ))
-    (syntax : IsChosenSyntax e.syntax oid) where
-  abbrev taking : Taking
-  taking = record { chosen = m.chosen; syntax = oid; conflicts = e.conflicts }
+    (before : Outputs) (m : Marked) (marked : AreMarked octets (path ∷ others) e.only Failures m)
+    (oid : Option (List ℕ)) (syntax : IsChosenSyntax e.syntax oid) where
+  abbrev taken : Taking
+  taken = taking octets path others e Failures m marked oid syntax
 
   abbrev result_of : Outputs → Result Status Fault → Type 0
   result_of after result = StreamedResult e octets (path ∷ others) before after result
 
   abbrev its : Sources
-  its = marked_sources octets path others e m marked
+  its = marked_sources octets path others e.only Failures m marked
 
   -- what is so of all sources is so of these
-  of_runs : (P : Sources → Type 0) → IsOfRuns octets (path ∷ others) m.runs.items taking P → P its
+  of_runs : (P : Sources → Type 0) → IsOfRuns octets (path ∷ others) m.runs.items taken P → P its
   of_runs P h =
-      h its (λ number. refl) (marked_runs octets path others e m marked)
-      (marked_taken octets path others e m marked taking refl)
+      h its (λ number. refl) (marked_runs octets path others e.only Failures m marked)
+      (marked_taken octets path others e.only Failures m marked)
 
   -- a front of the records was written
-  pub late : (after : Outputs) → after.errors ≡ before.errors → IsCutOff taking before.output after.output its
+  pub late : (after : Outputs) → after.errors ≡ before.errors → IsCutOff taken before.output after.output its
       → IsBrokenOff e octets (path ∷ others) before after
   late after same cut =
-      let x = front_extract octets path others e m marked taking refl syntax refl cut.text cut.is in record {
+      let x = front_extract octets path others e Failures m marked oid syntax cut.text cut.is in record {
         facts = x.0;
         oid = oid;
         extract = x.2.extract;
@@ -165,9 +166,9 @@ module _ (e : WantedRecords) (octets : List ℕ → Option (List ℕ)) (path : L
 
   -- the stream failed
   stopped : (after : Outputs) (to : Bor (List ℕ)) → after.errors ≡ before.errors → to.now ≡ before.output.path
-      → IsStopped taking before.output after.output its → result_of after (Err (Write to))
+      → IsStopped taken before.output after.output its → result_of after (Err (Write to))
   stopped after to same named s =
-      let x = front_extract octets path others e m marked taking refl syntax refl s.text s.is in
+      let x = front_extract octets path others e Failures m marked oid syntax s.text s.is in
       inl (
         x.0,
         oid,
@@ -178,45 +179,45 @@ module _ (e : WantedRecords) (octets : List ℕ → Option (List ℕ)) (path : L
       )
 
   not_written : (A : Type 0) (after : Outputs) → after.errors ≡ before.errors → (f : Fault)
-      → WriteRowsResult octets (path ∷ others) m.runs.items taking {A = A} before.output after.output (Err f)
+      → WriteRowsResult octets (path ∷ others) m.runs.items taken {A = A} before.output after.output (Err f)
       → result_of after (Err f)
   not_written A after same (Read failed) h = inr (
-    refused_among octets marked.names (path ∷ others) marked.theirs marked.saved failed.now h.0 (Read failed) refl,
-    late after same (of_runs (IsCutOff taking before.output after.output) h.1),
+    refused_among octets m.names (path ∷ others) marked.theirs marked.saved failed.now h.0 (Read failed) refl,
+    late after same (of_runs (IsCutOff taken before.output after.output) h.1),
   )
   not_written A after same (Write failed) h =
-      stopped after failed same h.0 (of_runs (IsStopped taking before.output after.output) h.1)
+      stopped after failed same h.0 (of_runs (IsStopped taken before.output after.output) h.1)
   not_written A after same Memory (inl none) = inl (none, same)
   not_written A after same Memory (inr cut) =
-      inr (late after same (of_runs (IsCutOff taking before.output after.output) cut))
+      inr (late after same (of_runs (IsCutOff taken before.output after.output) cut))
   not_written A after same f h = absurd h
 
   -- the same paths and runs by other words
   pub moved : {A : Type 0} (after : Outputs) (paths : List (List ℕ)) (runs : List Run) → paths ≡ path ∷ others
-      → runs ≡ m.runs.items → (w : Result (Vec ℕ A × LeftOut) Fault)
-      → WriteRowsResult octets paths runs taking before.output after.output w
-      → WriteRowsResult octets (path ∷ others) m.runs.items taking before.output after.output w
+      → runs ≡ m.runs.items → (w : Result (Vec ℕ A × Tally) Fault)
+      → WriteRowsResult octets paths runs taken before.output after.output w
+      → WriteRowsResult octets (path ∷ others) m.runs.items taken before.output after.output w
   moved after paths runs same_paths same_runs w h =
-      subst (λ z. WriteRowsResult octets (path ∷ others) z taking before.output after.output w) same_runs
-      (subst (λ z. WriteRowsResult octets z runs taking before.output after.output w) same_paths h)
+      subst (λ z. WriteRowsResult octets (path ∷ others) z taken before.output after.output w) same_runs
+      (subst (λ z. WriteRowsResult octets z runs taken before.output after.output w) same_paths h)
 
   pub rows_refused : {A : Type 0} (after : Outputs) → after.errors ≡ before.errors
-      → (w : Result (Vec ℕ A × LeftOut) Fault)
-      → WriteRowsResult octets (path ∷ others) m.runs.items taking before.output after.output w → (g f : Fault)
+      → (w : Result (Vec ℕ A × Tally) Fault)
+      → WriteRowsResult octets (path ∷ others) m.runs.items taken before.output after.output w → (g f : Fault)
       (r : Result Status Fault) → w ≡ Err g → r ≡ Err f → f ≡ g → result_of after r
   rows_refused {A = A} after same w h g f r was is of = rw (is, of) (not_written A after same g
-      (subst (λ z. WriteRowsResult octets (path ∷ others) m.runs.items taking before.output after.output z) was h))
+      (subst (λ z. WriteRowsResult octets (path ∷ others) m.runs.items taken before.output after.output z) was h))
 
-  module _ {A : Type 0} (mid : Outputs) (mid_same : mid.errors ≡ before.errors) (last : Vec ℕ A) (left : LeftOut)
-      (written : WriteRowsResult octets (path ∷ others) m.runs.items taking before.output mid.output (Ok (last, left)))
+  module _ {A : Type 0} (mid : Outputs) (mid_same : mid.errors ≡ before.errors) (last : Vec ℕ A) (told : Tally)
+      (written : WriteRowsResult octets (path ∷ others) m.runs.items taken before.output mid.output (Ok (last, told)))
     where
-      is : IsWritten taking before.output mid.output last.items left its
-      is = of_runs (IsWritten taking before.output mid.output last.items left) written
+      is : IsWritten taken before.output mid.output last.items told its
+      is = of_runs (IsWritten taken before.output mid.output last.items told) written
 
-      x : (facts : List Fact) × IsMarkedExtract octets path others e m marked taking refl facts
+      x : (facts : List Fact) × IsMarkedExtract octets path others e Failures m marked oid syntax facts
           × (is.text ++ last.items ≡ records_octets oid e.conflicts facts)
-          × (left ≡ left_out oid e.conflicts facts)
-      x = rows_extract octets path others e m marked taking refl syntax refl (is.text ++ last.items) left is.is
+          × (told.left ≡ left_out oid e.conflicts facts)
+      x = rows_extract octets path others e Failures m marked oid syntax (is.text ++ last.items) told is.is
 
       -- no memory was found for the lines
       pub no_lines : (f : Fault) (r : Result Status Fault) → r ≡ Err f → f ≡ Memory → result_of mid r
@@ -253,15 +254,15 @@ module _ (e : WantedRecords) (octets : List ℕ → Option (List ℕ)) (path : L
           subst (IsKnownStatus x.0) (sym h) (λ one. let no : m.failed ≡ true = x.1.failed.0 one in absurd cc)
 
       pub streamed : (text lines : List ℕ) (after : Outputs) (status : Status) → text ≡ last.items
-          → lines ≡ left_text left → IsStatusOf m.failed status → PutRecordsResult text lines mid after (Ok tt)
+          → lines ≡ left_text told.left → IsStatusOf m.failed status → PutRecordsResult text lines mid after (Ok tt)
           → result_of after (Ok status)
-      streamed text lines after status of told state h = inl (
+      streamed text lines after status of put state h = inl (
         x.0,
         oid,
         x.1.extract,
         status_known m.failed refl status state,
         subst (λ z. HasGained before.output after.output z) (ap (λ z. is.text ++ z) of ∙ x.2)
             (gained_more before.output mid.output after.output is.text text is.gained h.0),
-        subst (λ z. AfterTellLines before.errors after.errors z) (told ∙ ap left_text x.3)
+        subst (λ z. AfterTellLines before.errors after.errors z) (put ∙ ap left_text x.3)
             (subst (λ z. AfterTellLines z after.errors lines) mid_same h.1),
       )

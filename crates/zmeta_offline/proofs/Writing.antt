@@ -3,7 +3,7 @@ use Rattle.std.proofs.Common.{◌≡◌, ◌∙◌, ◌⊎◌, inl, inr, refl, s
 use Rattle.std.specs.Borrow.{Bor}
 use Rattle.std.specs.Prelude.{Contains, Vec}
 use Rattle.zknow.specs.declared.fact.Fact.{Fact}
-use Rattle.zknow_records.specs.declared.left_out.LeftOut.{LeftOut}
+use Rattle.zknow_forms.specs.declared.tally.Tally.{Tally}
 use Rattle.zknow_runs.specs.RowLaws.{AllRowLaws}
 use Rattle.zknow_runs.specs.Rows.{IsTaken, Sources, AreRunsIn, HoldsOf, AreRowsOf}
 use Rattle.zknow_runs.specs.declared.rows.Rows.{Rows}
@@ -75,11 +75,11 @@ module _ (octets : List ℕ → Option (List ℕ)) (paths : List (List ℕ)) (ru
     }
 
     -- all was read
-    pub ended : (now : Device) (reader : Reader) (rows : Rows) (last : List ℕ) (left : LeftOut)
-        → ((s : Sources) (t : Taking) (text : List ℕ) → HoldsOf s t text rows → AreRowsOf s t (text ++ last) left)
+    pub ended : (now : Device) (reader : Reader) (rows : Rows) (last : List ℕ) (told : Tally)
+        → ((s : Sources) (t : Taking) (text : List ℕ) → HoldsOf s t text rows → AreRowsOf s t (text ++ last) told)
         → IsGoing octets paths runs t start now reader rows
-        → IsOfRuns octets paths runs t (IsWritten t start now last left)
-    ended now reader rows last left all going s files are taken =
+        → IsOfRuns octets paths runs t (IsWritten t start now last told)
+    ended now reader rows last told all going s files are taken =
         let w = going.holds s files are in record { text = w.0; gained = w.1; is = all s t w.0 w.2 }
 
     module _ (law : AllRowLaws) where
@@ -113,18 +113,18 @@ module _ (octets : List ℕ → Option (List ℕ)) (paths : List (List ℕ)) (ru
 
       -- with the result that is returned
       pub missed_as : {A : Type 0} (now : Device) (reader : Reader) (rows : Rows) (g f : Fault)
-          (r : Result (Vec ℕ A × LeftOut) Fault) → r ≡ Err f → f ≡ g → IsReadFaultAmong paths g
+          (r : Result (Vec ℕ A × Tally) Fault) → r ≡ Err f → f ≡ g → IsReadFaultAmong paths g
           → IsGoing octets paths runs t start now reader rows → WriteRowsResult octets paths runs t start now r
       missed_as {A = A} now reader rows g f r is of among going =
           rw (is, of) (missed A now reader rows g among going)
 
       pub stopped_as : {A : Type 0} (old new : Device) (reader : Reader) (before after : Rows) (g f : Fault)
-          (r : Result (Vec ℕ A × LeftOut) Fault) → r ≡ Err f → f ≡ g → HasNotPut old new before after g
+          (r : Result (Vec ℕ A × Tally) Fault) → r ≡ Err f → f ≡ g → HasNotPut old new before after g
           → IsGoing octets paths runs t start old reader before → WriteRowsResult octets paths runs t start new r
       stopped_as {A = A} old new reader before after g f r is of has going =
           rw (is, of) (stopped A old new reader before after g has going)
 
     -- no memory was found before anything was written
-    pub no_memory : {A : Type 0} (f : Fault) (r : Result (Vec ℕ A × LeftOut) Fault) → r ≡ Err f → f ≡ Memory
+    pub no_memory : {A : Type 0} (f : Fault) (r : Result (Vec ℕ A × Tally) Fault) → r ≡ Err f → f ≡ Memory
         → WriteRowsResult octets paths runs t start start r
     no_memory f r is of = rw (is, of) (inl (kept start))

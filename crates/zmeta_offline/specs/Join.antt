@@ -133,12 +133,6 @@ JoinResult view octets paths old new (Err (Write failed)) = (facts : List Fact) 
 JoinResult view octets paths old new (Err Memory) = IsUnchanged old new
 JoinResult view octets paths old new (Err f) = IsRefusedAmong octets paths f × IsUnchanged old new
 
--- the streams and the status after `join`
-abbrev pub AfterJoin : View → (List ℕ → Option (List ℕ)) → List (List ℕ) → Outputs → Outputs → Status → Type 0
-AfterJoin view octets paths before after status = (result : Result Status Fault)
-    × JoinResult view octets paths before.output after.output result
-    × AfterEnd result before.errors after.errors status
-
 -- ---- the command with a file that is made
 
 -- the list was written, a front of it if the stream failed, or nothing if no memory was found

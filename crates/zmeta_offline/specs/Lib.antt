@@ -1,6 +1,7 @@
 pub mod Catalogues
 pub mod Digits
 pub mod Join
+pub mod Joined
 pub mod Marked
 pub mod Merged
 pub mod Names

@@ -1,25 +1,40 @@
 -- What the first pass of `records` finds in saved files: where the records stand that are taken.
-use Rattle.std.specs.Prelude.{◌≡◌, ◌↔◌, ℕ, Bool, true, List, [], ◌∷◌, slice_get, slice_index_or, Contains, Option, Some, None, Result, Ok, Err, ⊤}
+use Rattle.std.specs.Prelude.{◌≡◌, ◌↔◌, ◌<◌, ℕ, true, List, [], ◌∷◌, length, slice_get, slice_index_or, Contains, Option, None, Result, Ok, Err, ⊤}
 use Rattle.std.specs.List.{AllByRecursion}
 use Rattle.zknow.specs.declared.fact.Fact.{Fact}
 use Rattle.zknow.specs.declared.fact.Fact.TheVariants.{Failed}
-use Rattle.zknow.specs.Facts.{AreFacts}
+use Rattle.zknow.specs.Facts.{fact_target, AreFacts}
+use Rattle.zknow.specs.List.Listing.{row_key_of}
 use Rattle.zknow.specs.Saved.Saved.{IsWithinLimits}
 use Rattle.zknow.specs.Saved.SavedFacts.{saved_fact}
 use Rattle.zknow_runs.specs.Placed.{IsKnownTaken}
 use Rattle.zknow_runs.specs.Rows.{is_taken, AreAllWanted}
 use Rattle.zknow_runs.specs.declared.rows.Chosen.{Chosen}
+use Rattle.zknow_runs.specs.declared.run.Run.{Run}
 use Rattle.zmeta_devices.specs.declared.fault.Fault.{Fault}
 use Rattle.zmeta_devices.specs.declared.fault.Fault.TheVariants.{NoCatalogue, Memory}
-use Rattle.zmeta_offline.specs.Catalogues.{is_chosen, is_of_chosen}
+use Rattle.zmeta_offline.specs.Catalogues.{is_chosen}
 use Rattle.zmeta_offline.specs.Join.{IsSavedAt, IsRefusedAmong}
 use Rattle.zmeta_offline.specs.Names.{AreAllKnown}
 use Rattle.zmeta_offline.specs.Records.{HasNoCatalogue}
 use Rattle.zmeta_offline.specs.declared.scanned.Marked.{Marked}
+use Rattle.zmeta_offline.specs.declared.scanned.Noting.{Noting}
+use Rattle.zmeta_offline.specs.declared.scanned.Noting.TheVariants.{Failures, Others}
 
 -- records are taken of the catalogues that are among `only`, or of all
 abbrev pub AreChosen : List (List ℕ) → List (List ℕ) → Chosen → Type 0
 AreChosen only names c = (target : ℕ) → is_taken c target ≡ is_chosen only (slice_get names target)
+
+-- facts that are no records are noted
+abbrev pub AreNoted : Noting → Type 0
+AreNoted Failures = ⊥
+AreNoted Others = ⊤
+
+-- of the facts of several files, exactly those of chosen catalogues that are no records
+pub record AreOthersOf (c : Chosen) (theirs : List (List Fact)) (facts : List Fact) : Type 0 where
+  pub lawful : AreFacts facts
+  pub members : (f : Fact) → Contains facts f ↔ (((own : List Fact) × Contains theirs own × Contains own f)
+      × (row_key_of f ≡ None) × (is_taken c (fact_target f) ≡ true))
 
 -- files by their paths, each with its octets if they are known
 module _ (octets : List ℕ → Option (List ℕ)) where
@@ -50,18 +65,19 @@ module _ (octets : List ℕ → Option (List ℕ)) where
       pub chosen : is_chosen only (slice_get names target) ≡ true
 
     -- the runs have the records of the chosen catalogues, as far as octets are known
-    pub record AreMarked (only : List (List ℕ)) (m : Marked) : Type 0 where
-      pub names : List (List ℕ)
+    pub record AreMarked (only : List (List ℕ)) (noting : Noting) (m : Marked) : Type 0 where
       pub theirs : List (List Fact)
-      pub saved : AreSavedEach names paths theirs
-      pub known : AreAllKnown only names
-      pub chosen : AreChosen only names m.chosen
+      pub saved : AreSavedEach m.names paths theirs
+      pub known : AreAllKnown only m.names
+      pub chosen : AreChosen only m.names m.chosen
       pub runs : AreAllWanted file_at (IsKnownTaken file_at m.chosen theirs) HasUnknown m.runs.items
-      pub failed : (m.failed ≡ true) ↔ HasChosenFailure only names theirs
+      pub files : (r : Run) → Contains m.runs.items r → r.file < length paths
+      pub failed : (m.failed ≡ true) ↔ HasChosenFailure only m.names theirs
+      pub others : AreNoted noting → AreOthersOf m.chosen theirs m.others
 
     -- what was found, or why a file is refused
-    abbrev pub ScanFilesResult : List (List ℕ) → Result Marked Fault → Type 0
-    ScanFilesResult only (Ok m) = AreMarked only m
-    ScanFilesResult only (Err (NoCatalogue name)) = HasNoCatalogue octets paths only name.now
-    ScanFilesResult only (Err Memory) = ⊤
-    ScanFilesResult only (Err f) = IsRefusedAmong octets paths f
+    abbrev pub ScanFilesResult : List (List ℕ) → Noting → Result Marked Fault → Type 0
+    ScanFilesResult only noting (Ok m) = AreMarked only noting m
+    ScanFilesResult only noting (Err (NoCatalogue name)) = HasNoCatalogue octets paths only name.now
+    ScanFilesResult only noting (Err Memory) = ⊤
+    ScanFilesResult only noting (Err f) = IsRefusedAmong octets paths f

@@ -1,8 +1,8 @@
--- What is read of saved files where their records stand, and what is written of the records.
+-- What is read of saved files where their records stand, and what is written of the records in a form.
 use Rattle.std.specs.Prelude.{◌≡◌, ◌⊎◌, ℕ, List, [], ◌++◌, slice_index_or, Contains, Option, IfSome, Result, Ok, Err, MatchResult, Vec, ⊤}
 use Rattle.std.specs.List.{AllByRecursion}
 use Rattle.zknow.specs.declared.fact.Fact.{Fact}
-use Rattle.zknow_records.specs.declared.left_out.LeftOut.{LeftOut}
+use Rattle.zknow_forms.specs.declared.tally.Tally.{Tally}
 use Rattle.zknow_runs.specs.RowLaws.{AreRowsFrontOf}
 use Rattle.zknow_runs.specs.Rows.{StandAt, IsTaken, IsWantedOf, Sources, AreRunsIn, HoldsOf, AreRowsOf}
 use Rattle.zknow_runs.specs.declared.rows.Rows.{Rows}
@@ -86,10 +86,10 @@ PutPieceResult old new before after result =
 -- ---- the second pass
 
 -- the whole text was written, but for these octets
-pub record IsWritten (t : Taking) (old new : Device) (last : List ℕ) (left : LeftOut) (s : Sources) : Type 0 where
+pub record IsWritten (t : Taking) (old new : Device) (last : List ℕ) (told : Tally) (s : Sources) : Type 0 where
   pub text : List ℕ
   pub gained : HasGained old new text
-  pub is : AreRowsOf s t (text ++ last) left
+  pub is : AreRowsOf s t (text ++ last) told
 
 -- a front of the text was written
 pub record IsCutOff (t : Taking) (old new : Device) (s : Sources) : Type 0 where
@@ -110,7 +110,7 @@ module _ (octets : List ℕ → Option (List ℕ)) (paths : List (List ℕ)) (ru
       → ((f : Fact) → Contains s.known f → IsTaken t.chosen f) → P s
 
   -- all was written, but for the last octets, or why not
-  abbrev pub WriteRowsResult : {A : Type 0} → Device → Device → Result (Vec ℕ A × LeftOut) Fault → Type 0
+  abbrev pub WriteRowsResult : {A : Type 0} → Device → Device → Result (Vec ℕ A × Tally) Fault → Type 0
   WriteRowsResult old new (Ok r) = IsOfRuns (IsWritten t old new r.0.items r.1)
   WriteRowsResult old new (Err (Read failed)) = Contains paths failed.now × IsOfRuns (IsCutOff t old new)
   WriteRowsResult old new (Err (Write failed)) = (failed.now ≡ old.path) × IsOfRuns (IsStopped t old new)

@@ -1,5 +1,5 @@
 -- The scan of saved files, one after the other: what was read of a file, and what was noted of chosen catalogues.
-use Rattle.std.specs.Prelude.{◌≡◌, ℕ, Bool, false, ◌||◌, List, [], ◌∷◌, ◌++◌, length, Option, Some, None}
+use Rattle.std.specs.Prelude.{◌≡◌, ℕ, Bool, false, ◌||◌, List, [], ◌∷◌, ◌++◌, length, Contains, Option, Some, None}
 use Rattle.std.specs.List.{list_any, AllByRecursion}
 use Rattle.zknow.specs.declared.fact.Fact.{Fact}
 use Rattle.zknow.specs.declared.fact.Fact.TheVariants.{Count, Failed, Seen, Diag}
@@ -7,6 +7,7 @@ use Rattle.zknow.specs.Encodings.{encoding}
 use Rattle.zknow.specs.Facts.{AreFacts}
 use Rattle.zknow.specs.Saved.Saved.{IsWithinLimits}
 use Rattle.zknow.specs.Saved.SavedFacts.{saved_names, saved_fact}
+use Rattle.zknow.specs.Tables.Join.{IsUnion}
 use Rattle.zknow_merge.specs.Inputs.{Input}
 use Rattle.zknow_merge.specs.Scans.{Found, IsScan, IsPlaceOf}
 use Rattle.zknow_merge.specs.declared.scan.FactPlace.{FactPlace}
@@ -19,7 +20,7 @@ use Rattle.zmeta_devices.specs.Devices.{InputDevice}
 use Rattle.zmeta_devices.specs.declared.fault.Fault.{Fault}
 use Rattle.zmeta_devices.specs.declared.fault.Fault.TheVariants.{NamesDiffer}
 use Rattle.zmeta_offline.specs.Join.{IsSavedAt, IsFaultAt, HasOtherNames}
-use Rattle.zmeta_offline.specs.Marked.{AreChosen, AreSavedEach}
+use Rattle.zmeta_offline.specs.Marked.{AreChosen, AreNoted, AreOthersOf, AreSavedEach}
 use Rattle.zmeta_offline.specs.Merged.{stream_at, IsReadTo}
 use Rattle.zmeta_offline.specs.declared.scanned.First.{First}
 use Rattle.zmeta_offline.specs.declared.scanned.Marks.{Marks}
@@ -41,10 +42,19 @@ has_failure c facts = list_any (is_failure c) facts
 
 -- What was noted of the files with these facts and the names of the first, and of these facts of the next file, which
 -- has names of its own.
-pub record AreMarks (c : Chosen) (names : List (List ℕ)) (theirs : List (List Fact)) (own : List (List ℕ))
-    (facts : List Fact) (m : Marks) : Type 0 where
-  pub runs : HoldsRuns (all_placed c names 0 theirs ++ placed c own (length theirs) [] facts) m.runs
-  pub failed : m.failed ≡ (list_any (has_failure c) theirs || has_failure c facts)
+pub record AreMarks (first : First) (theirs : List (List Fact)) (own : List (List ℕ)) (facts : List Fact) (m : Marks)
+    : Type 0 where
+  pub runs : HoldsRuns (all_placed first.chosen first.names 0 theirs
+      ++ placed first.chosen own (length theirs) [] facts) m.runs
+  pub failed : m.failed ≡ (list_any (has_failure first.chosen) theirs || has_failure first.chosen facts)
+  pub others : AreNoted first.noting → AreOthersOf first.chosen (facts ∷ theirs) m.others
+
+-- ---- what is noted of one fact
+
+-- these are facts, which are those before and this one
+pub record HasAdded (f : Fact) (old new : List Fact) : Type 0 where
+  pub lawful : AreFacts new
+  pub union : IsUnion (Contains old) (λ g. g ≡ f) (Contains new)
 
 -- the element is that of the names, and records are taken of the catalogues that are among `only`, or of all
 pub record IsFirst (only : List (List ℕ)) (first : First) : Type 0 where
@@ -55,6 +65,11 @@ pub record IsFirst (only : List (List ℕ)) (first : First) : Type 0 where
 -- a scan has read these names, and nothing more
 abbrev pub IsBehindNames : List (List ℕ) → Scan → Type 0
 IsBehindNames own s = (i : Input) × IsScan i (Some (own, [])) s
+
+-- a scan has read this fact last
+abbrev pub IsBehindFact : Fact → Scan → Type 0
+IsBehindFact f s = (i : Input) × (names : List (List ℕ)) × (facts : List Fact)
+    × IsScan i (Some (names, facts ++ f ∷ [])) s
 
 -- files by their paths, each with its octets if they are known
 module _ (octets : List ℕ → Option (List ℕ)) where
@@ -95,11 +110,11 @@ module _ (octets : List ℕ → Option (List ℕ)) where
   AfterReached path now found reacheds.End s = AfterEnd path found
 
   -- all facts of the file at the path were noted behind those of the files before it
-  pub record IsMarkedFile (path : List ℕ) (c : Chosen) (names : List (List ℕ)) (theirs : List (List Fact))
-      (own : List (List ℕ)) (m : Marks) : Type 0 where
+  pub record IsMarkedFile (path : List ℕ) (first : First) (theirs : List (List Fact)) (own : List (List ℕ))
+      (m : Marks) : Type 0 where
     pub facts : List Fact
     pub has : AreFactsAt path own facts
-    pub marks : AreMarks c names theirs own facts m
+    pub marks : AreMarks first theirs own facts m
 
   -- ---- several files
 
@@ -113,4 +128,4 @@ module _ (octets : List ℕ → Option (List ℕ)) where
     pub theirs : List (List Fact)
     pub saved : AreSavedEach octets first.names paths theirs
     pub first_is : IsFirst only first
-    pub marks : AreMarks first.chosen first.names theirs first.names [] m
+    pub marks : AreMarks first theirs first.names [] m

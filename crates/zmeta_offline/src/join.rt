@@ -1,12 +1,15 @@
 //! The command `join`: the list of the facts of several saved files, and one file of them.
 ghost use Rattle.std.specs.Prelude.{◌≡◌, ◌↔◌, ◌∷◌, [], IsTrue, IfSome, IfErr, Result};
 ghost use Rattle.zmeta_args.specs.Texts.{texts_of};
-ghost use Rattle.zmeta_offline.specs.Join.{IsKnownStatus, LoadFileResult, LoadNamedResult, LoadAllResult, AbsorbNamedResult, AbsorbAllResult, IsOfFile, PutListResult, JoinResult, AfterJoin, ListFactsResult, ListAndSaveResult, AfterJoinSaved};
+ghost use Rattle.zmeta_offline.specs.Join.{IsKnownStatus, LoadFileResult, LoadNamedResult, LoadAllResult, AbsorbNamedResult, AbsorbAllResult, IsOfFile, PutListResult, JoinResult, ListFactsResult, ListAndSaveResult, AfterJoinSaved};
+ghost use Rattle.zmeta_offline.specs.Joined.{AfterJoin, StreamedJoinResult};
 ghost use Rattle.zmeta_devices.specs.Devices.{output_device, outputs};
 ghost use Rattle.zmeta_offline.specs.Views.{printed};
 ghost use Rattle.zmeta_devices.specs.declared.fault.Fault.{Fault};
 ghost use Rattle.zmeta_devices.specs.declared.fault.Status.{Status};
 
+use crate::joined::{join_streamed, parted};
+use crate::records::{SavedFiles, are_seekable};
 use crate::saved::save_facts;
 use crate::view::print_view;
 use std::alloc::Global;
@@ -23,6 +26,10 @@ use zmeta_devices::output::Output;
 /// If a file is refused, or has other names than those before it, writes the reason on `errors` and prints
 /// nothing. Each file is read before the next is opened.
 ///
+/// For a list or lines of JSON, files are read twice if all of them can be, and may outgrow memory. If one cannot be
+/// read the second time, is not as it was, or no memory is found then, a front of the list may have been printed before
+/// the reason.
+///
 /// Returns `Failed` if the list has a search or an association that failed.
 pub fn join_named<'a, 'o: 'a, F: Folder, W: Write, E: Write>(
     alloc: Global,
@@ -37,11 +44,31 @@ pub fn join_named<'a, 'o: 'a, F: Folder, W: Write, E: Write>(
         (outputs W.contents E.contents output.old errors.old)
         (outputs W.contents E.contents output.new errors.new) result }
 {
-    let answer = join_files(alloc, files, first, others, view, output);
+    let answer = join_wanted(alloc, files, SavedFiles { first, others }, view, output);
     end(answer, errors)
 }
 
-/// Prints the list, and returns the status.
+/// Prints the list, and returns the status. A list and lines of JSON are a stream if all files can be read twice.
+fn join_wanted<'a, 'o: 'a, F: Folder, W: Write>(
+    alloc: Global,
+    files: &'a F,
+    saved: SavedFiles<'a, '_>,
+    view: View<'_>,
+    output: &mut Output<'o, W>,
+) -> Result<Status, Fault<'a>>
+    ensures { StreamedJoinResult view.entry (F.octets files.now)
+        (saved.entry.first.now ∷ texts_of saved.entry.others.now)
+        (output_device W.contents output.old) (output_device W.contents output.new) result }
+{
+    if let Some(shape) = parted(view) {
+        if are_seekable(files, saved) {
+            return join_streamed(alloc, files, saved, shape, output);
+        }
+    }
+    join_files(alloc, files, saved.first, saved.others, view, output)
+}
+
+/// Prints the list of facts that are in memory, and returns the status.
 fn join_files<'a, 'o: 'a, F: Folder, W: Write>(
     alloc: Global,
     files: &'a F,

@@ -4,6 +4,7 @@
 mod catalogues;
 mod digits;
 pub mod join;
+mod joined;
 pub mod laws;
 pub mod merged;
 pub mod names;

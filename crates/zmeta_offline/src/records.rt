@@ -13,11 +13,12 @@ use crate::catalogues::facts_of;
 use crate::join::{known_status, load_all};
 use crate::news::news_files;
 use crate::rows::write_rows;
-use crate::scanned::{Marked, scan_files};
+use crate::scanned::{Marked, Noting, scan_files};
 use std::alloc::{AllocError, Global};
 use std::io::Write;
 use zber::{Oid, OidError};
 use zknow::Knowledge;
+use zknow_forms::Form;
 use zknow_records::{LeftOut, write_records};
 use zknow_runs::Taking;
 use zmeta_devices::fault::{Fault, Status, end};
@@ -108,7 +109,7 @@ fn write_wanted<'a, 'o: 'a, F: Folder, W: Write, E: Write>(
 }
 
 /// Whether all files may be read more than once, and from any octet on.
-fn are_seekable<F: Folder>(files: &F, saved: SavedFiles<'_, '_>) -> bool {
+pub(crate) fn are_seekable<F: Folder>(files: &F, saved: SavedFiles<'_, '_>) -> bool {
     if !files.is_seekable(saved.first) {
         return false;
     }
@@ -121,7 +122,10 @@ fn are_seekable<F: Folder>(files: &F, saved: SavedFiles<'_, '_>) -> bool {
 }
 
 /// Returns all paths, in order.
-fn paths_of<'a>(alloc: Global, saved: SavedFiles<'a, '_>) -> Result<Vec<&'a str>, AllocError>
+pub(crate) fn paths_of<'a>(
+    alloc: Global,
+    saved: SavedFiles<'a, '_>,
+) -> Result<Vec<&'a str>, AllocError>
     ensures { IfOk result (λ paths. texts_of paths.items
         ≡ saved.entry.first.now ∷ texts_of saved.entry.others.now) }
 {
@@ -156,13 +160,22 @@ fn records_streamed<'a, 'o: 'a, F: Folder, W: Write, E: Write>(
         chosen,
         runs,
         failed,
-    } = scan_files(alloc, files, paths.as_slice(), wanted.only)?;
+        ..
+    } = scan_files(
+        alloc,
+        files,
+        paths.as_slice(),
+        wanted.only,
+        Noting::Failures,
+    )?;
     let taking = Taking {
         chosen,
-        syntax,
-        conflicts: wanted.conflicts,
+        form: Form::Octets {
+            syntax,
+            conflicts: wanted.conflicts,
+        },
     };
-    let (last, left) = write_rows(
+    let (last, tally) = write_rows(
         alloc,
         files,
         paths.as_slice(),
@@ -170,13 +183,13 @@ fn records_streamed<'a, 'o: 'a, F: Folder, W: Write, E: Write>(
         taking,
         output,
     )?;
-    let lines = left_lines(alloc, &left)?;
+    let lines = left_lines(alloc, &tally.left)?;
     put_records(last.as_slice(), lines.as_slice(), output, errors)?;
     Ok(status_of(failed))
 }
 
 /// Returns the status: `Failed` if a search or an association failed, else `Done`.
-fn status_of(failed: bool) -> Status
+pub(crate) fn status_of(failed: bool) -> Status
     ensures { IsStatusOf failed result }
 {
     if failed { Status::Failed } else { Status::Done }

@@ -1,4 +1,4 @@
-//! The records of saved files that outgrow memory, by position: the second pass of `records`.
+//! The records of saved files that outgrow memory, by position: the second pass over such files.
 ghost use Rattle.std.specs.Prelude.{◌≡◌, ◌<◌, ℕ, List, Option, length, IfOk, IfErr, IfSome, OnOk};
 ghost use Rattle.zknow_runs.specs.Rows.{StandAt};
 ghost use Rattle.zmeta_args.specs.Texts.{texts_of};
@@ -7,7 +7,7 @@ ghost use Rattle.zmeta_offline.specs.Rows.{path_at, IsReader, IsReadFault, IsRea
 
 use std::alloc::{AllocError, Global};
 use std::io::Write;
-use zknow_records::LeftOut;
+use zknow_forms::Tally;
 use zknow_runs::laws::row_laws;
 use zknow_runs::{ReadStep, Rows, Run, Taking, Wanted};
 use zmeta_devices::fault::Fault;
@@ -236,11 +236,11 @@ fn put_piece<'o, W: Write>(rows: &mut Rows, output: &mut Output<'o, W>) -> Resul
     written
 }
 
-/// Writes the octets of the records of these runs of the files at these paths, by position, target and set, but for the
-/// last of them: returns these, and what was left out.
+/// Writes the text of the records of these runs of the files at these paths, by position, target and set, in the form
+/// that is taken, but for its last octets: returns these, and what is told of the records.
 ///
 /// `Read` with the path of a file if it cannot be read, or is not as it was when its runs were found. `Memory` if no
-/// memory is found. Both can come behind a front of the octets.
+/// memory is found. Both can come behind a front of the text.
 pub(crate) fn write_rows<'a, 'o: 'a, F: Folder, W: Write>(
     alloc: Global,
     files: &F,
@@ -248,7 +248,7 @@ pub(crate) fn write_rows<'a, 'o: 'a, F: Folder, W: Write>(
     runs: &[Run],
     taking: Taking,
     output: &mut Output<'o, W>,
-) -> Result<(Vec<u8>, LeftOut), Fault<'a>>
+) -> Result<(Vec<u8>, Tally), Fault<'a>>
     ensures { WriteRowsResult (F.octets files.now) (texts_of paths.now) runs.now taking
         (output_device W.contents output.old) (output_device W.contents output.new) result }
 {

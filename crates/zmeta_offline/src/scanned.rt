@@ -1,4 +1,4 @@
-//! Where the records of saved files stand: the first pass of `records` over files that outgrow memory.
+//! Where the records of saved files stand: the first pass over files that outgrow memory.
 ghost use Rattle.std.specs.Prelude.{◌≡◌, ◌∷◌, ◌++◌, ◌↔◌, ◌<◌, ℕ, List, [], Option, Some, None, false, length, IsTrue, IfOk, IfErr, OnOk};
 ghost use Rattle.zknow.specs.declared.fact.Fact.{Fact};
 ghost use Rattle.zknow.specs.Encodings.{encoding};
@@ -8,29 +8,41 @@ ghost use Rattle.zknow_merge.specs.Scans.{Found, IsPlaceOf};
 ghost use Rattle.zmeta_args.specs.Texts.{texts_of};
 ghost use Rattle.zmeta_devices.specs.Devices.{input_device};
 ghost use Rattle.zmeta_offline.specs.Join.{IsFaultAt, IsRefusedAmong};
-ghost use Rattle.zmeta_offline.specs.Marked.{AreChosen, ScanFilesResult};
-ghost use Rattle.zmeta_offline.specs.Scanned.{IsScanning, AfterReached, AreMarks, IsMarkedFile, IsFirst, IsBehindNames, IsRefusedBehind, IsScannedTo};
+ghost use Rattle.zmeta_offline.specs.Marked.{AreChosen, AreNoted, ScanFilesResult};
+ghost use Rattle.zmeta_offline.specs.Scanned.{IsScanning, AfterReached, AreMarks, IsMarkedFile, IsFirst};
+ghost use Rattle.zmeta_offline.specs.Scanned.{IsBehindNames, IsBehindFact, HasAdded};
+ghost use Rattle.zmeta_offline.specs.Scanned.{IsRefusedBehind, IsScannedTo};
 
 use crate::merged::piece_of;
 use crate::names::{first_unknown, is_picked};
 use bytes::Bytes;
 use std::alloc::{AllocError, Global};
 use std::io::Read;
-use zknow::{Names, load};
-use zknow_merge::{FactKind, FactPlace, Scan, ScanStep};
+use zknow::{Knowledge, Names, load};
+use zknow_merge::{FactKind, FactPlace, Scan, ScanStep, first_fact};
 use zknow_runs::{Chosen, Run, RunList};
 use zmeta_devices::fault::Fault;
 use zmeta_devices::files::{Folder, file_at};
 use zmeta_devices::input::Input;
 
-/// The names of the first file.
+/// What is noted of facts beside where records stand.
+#[derive(Clone, Copy)]
+pub(crate) enum Noting {
+    /// Failures alone.
+    Failures,
+    /// All facts that are no records.
+    Others,
+}
+
+/// The names of the first file, and what is noted of facts.
 #[derive(Drop)]
 struct First {
-    /// Their element.
+    /// The element of the names.
     element: Vec<u8>,
     names: Names,
-    /// Whose records are taken.
+    /// Of which catalogues facts are noted.
     chosen: Chosen,
+    noting: Noting,
 }
 
 /// What the files that were scanned have of chosen catalogues.
@@ -40,6 +52,8 @@ struct Marks {
     runs: RunList,
     /// Whether a search or an association of one failed.
     failed: bool,
+    /// Their facts that are no records, if these are noted.
+    others: Knowledge,
 }
 
 /// What was found in the files that were scanned.
@@ -54,10 +68,14 @@ struct Scanned {
 pub(crate) struct Marked {
     /// Whose records are taken.
     pub(crate) chosen: Chosen,
+    /// The names of all files.
+    pub(crate) names: Names,
     /// Where their records stand.
     pub(crate) runs: Vec<Run>,
     /// Whether a search or an association of one failed.
     pub(crate) failed: bool,
+    /// Their facts that are no records, if these were noted.
+    pub(crate) others: Knowledge,
 }
 
 /// What a scan came to.
@@ -79,9 +97,10 @@ pub(crate) fn scan_files<'a, F: Folder>(
     files: &F,
     paths: &[&'a str],
     only: &[&'a str],
+    noting: Noting,
 ) -> Result<Marked, Fault<'a>>
     requires { 0 < length paths.now }
-    ensures { ScanFilesResult (F.octets files.now) (texts_of paths.now) (texts_of only.now) result }
+    ensures { ScanFilesResult (F.octets files.now) (texts_of paths.now) (texts_of only.now) noting result }
 {
     let mut piece = piece_of(alloc)?;
     let Scanned { first, mut marks } = scan_first(
@@ -89,6 +108,7 @@ pub(crate) fn scan_files<'a, F: Folder>(
         files,
         paths[0],
         only,
+        noting,
         piece.as_mut_slice(),
     )?;
     let others = &paths[1..];
@@ -107,17 +127,23 @@ pub(crate) fn scan_files<'a, F: Folder>(
 fn marked_of<'a>(only: &[&'a str], first: First, marks: Marks) -> Result<Marked, Fault<'a>>
     ensures { (octets : List ℕ → Option (List ℕ)) (path : List ℕ) (paths : List (List ℕ))
         → IsScannedTo octets (texts_of only.now) (path ∷ paths) first marks
-        → ScanFilesResult octets (path ∷ paths) (texts_of only.now) result }
+        → ScanFilesResult octets (path ∷ paths) (texts_of only.now) first.noting result }
 {
     match first_unknown(only, first.names.as_slice()) {
         Some(name) => Err(Fault::NoCatalogue(name)),
         None => {
-            let First { chosen, .. } = first;
-            let Marks { runs, failed } = marks;
+            let First { names, chosen, .. } = first;
+            let Marks {
+                runs,
+                failed,
+                others,
+            } = marks;
             Ok(Marked {
                 chosen,
+                names,
                 runs: runs.finish()?,
                 failed,
+                others,
             })
         }
     }
@@ -129,23 +155,26 @@ fn scan_first<'a, F: Folder>(
     files: &F,
     path: &'a str,
     only: &[&str],
+    noting: Noting,
     piece: &mut [u8],
 ) -> Result<Scanned, Fault<'a>>
     requires { 0 < length piece.old }
     ensures ok { IfOk result (λ s. IsScannedTo (F.octets files.now) (texts_of only.now) (path.entry.now ∷ [])
         s.first s.marks) }
+    ensures noting { IfOk result (λ s. s.first.noting ≡ noting) }
     ensures err { IfErr result (IsFaultAt (F.octets files.now) path.entry.now) }
     ensures room { length piece.new ≡ length piece.old }
 {
     let mut file = file_at(files, path);
     let mut scan = Scan::new(alloc);
     read_names(&mut file, piece, &mut scan)?;
-    let first = first_of(alloc, &scan, only)?;
+    let first = first_of(alloc, &scan, only, noting)?;
     let mut marks = Marks {
         runs: RunList::new(alloc),
         failed: false,
+        others: Knowledge::new(alloc),
     };
-    mark_facts(&mut file, piece, &mut scan, 0, &first.chosen, &mut marks)?;
+    mark_facts(alloc, &mut file, piece, &mut scan, 0, &first, &mut marks)?;
     Ok(Scanned { first, marks })
 }
 
@@ -200,7 +229,7 @@ fn scan_other<'a, F: Folder>(
     let mut scan = Scan::new(alloc);
     read_names(&mut file, piece, &mut scan)?;
     let same = has_names(&scan, first.element.as_slice());
-    mark_facts(&mut file, piece, &mut scan, number, &first.chosen, marks)?;
+    mark_facts(alloc, &mut file, piece, &mut scan, number, first, marks)?;
     if same {
         Ok(())
     } else {
@@ -232,19 +261,20 @@ fn read_names<'a, R: Read>(
 
 /// Notes what the facts of the file of this number say of chosen catalogues, up to its end.
 fn mark_facts<'a, R: Read>(
+    alloc: Global,
     file: &mut Input<'a, R>,
     piece: &mut [u8],
     scan: &mut Scan,
     number: u32,
-    chosen: &Chosen,
+    first: &First,
     marks: &mut Marks,
 ) -> Result<(), Fault<'a>>
     requires { 0 < length piece.old }
-    ensures ok { OnOk result ((octets : List ℕ → Option (List ℕ)) (path : List ℕ) (names own : List (List ℕ))
+    ensures ok { OnOk result ((octets : List ℕ → Option (List ℕ)) (path : List ℕ) (own : List (List ℕ))
         (theirs : List (List Fact)) → number ≡ length theirs
         → IsScanning octets path (input_device R.remaining file.old) (Some (own, [])) scan.old
-        → AreMarks chosen.now names theirs own [] marks.old
-        → IsMarkedFile octets path chosen.now names theirs own marks.new) }
+        → AreMarks first.now theirs own [] marks.old
+        → IsMarkedFile octets path first.now theirs own marks.new) }
     ensures err { IfErr result (λ f. (octets : List ℕ → Option (List ℕ)) (path : List ℕ) (own : List (List ℕ))
         → IsScanning octets path (input_device R.remaining file.old) (Some (own, [])) scan.old
         → IsFaultAt octets path f) }
@@ -254,7 +284,7 @@ fn mark_facts<'a, R: Read>(
         match go_on(file, piece, scan)? {
             // The names come once.
             Reached::Names => return Err(Fault::Memory),
-            Reached::Fact(place) => marks.note(chosen, number, place)?,
+            Reached::Fact(place) => marks.note(alloc, first, number, place, scan)?,
             Reached::End => return Ok(()),
         }
     }
@@ -321,10 +351,11 @@ fn has_names(scan: &Scan, element: &[u8]) -> bool
     }
 }
 
-/// Returns the names that the scan of the first file has read, and whose records are taken.
-fn first_of(alloc: Global, scan: &Scan, only: &[&str]) -> Result<First, AllocError>
-    ensures { IfOk result (λ first. (names : List (List ℕ)) → IsBehindNames names scan.now
+/// Returns the names that the scan of the first file has read, and what is noted of facts.
+fn first_of(alloc: Global, scan: &Scan, only: &[&str], noting: Noting) -> Result<First, AllocError>
+    ensures first { IfOk result (λ first. (names : List (List ℕ)) → IsBehindNames names scan.now
         → (first.names ≡ names) × IsFirst (texts_of only.now) first) }
+    ensures noting { IfOk result (λ first. first.noting ≡ noting) }
 {
     // The names were read.
     let Some(element) = scan.names() else {
@@ -338,6 +369,7 @@ fn first_of(alloc: Global, scan: &Scan, only: &[&str]) -> Result<First, AllocErr
         element: Vec::from_slice(alloc, element)?,
         names,
         chosen,
+        noting,
     })
 }
 
@@ -355,23 +387,57 @@ fn chosen_of(alloc: Global, only: &[&str], names: &[Bytes]) -> Result<Chosen, Al
     })
 }
 
+/// Adds the fact that a scan read last, if facts are noted that are no records.
+fn add_other(
+    alloc: Global,
+    noting: Noting,
+    scan: &Scan,
+    others: &mut Knowledge,
+) -> Result<(), AllocError>
+    ensures { OnOk result (AreNoted noting → (f : Fact) → IsBehindFact f scan.now
+        → HasAdded f others.old others.new) }
+{
+    if let Noting::Failures = noting {
+        return Ok(());
+    }
+    // A fact was read.
+    let Some(element) = scan.element() else {
+        return Err(AllocError);
+    };
+    let Ok((fact, _)) = first_fact(alloc, element) else {
+        return Err(AllocError);
+    };
+    let added = others.add(&fact);
+    others.lawful();
+    added
+}
+
 impl Marks {
-    /// Notes what a fact of the file of this number says of a chosen catalogue: where its record stands, or that a
-    /// search or an association failed.
-    fn note(&mut self, chosen: &Chosen, number: u32, place: FactPlace) -> Result<(), AllocError>
-        ensures { OnOk result ((names own : List (List ℕ)) (theirs : List (List Fact)) (facts : List Fact) (f : Fact)
-            → number ≡ length theirs → IsPlaceOf own facts f place
-            → AreMarks chosen.now names theirs own facts self.old
-            → AreMarks chosen.now names theirs own (facts ++ f ∷ []) self.new) }
+    /// Notes what the fact that a scan of the file of this number read last says of a chosen catalogue. It is of this
+    /// kind, and stands here.
+    fn note(
+        &mut self,
+        alloc: Global,
+        first: &First,
+        number: u32,
+        place: FactPlace,
+        scan: &Scan,
+    ) -> Result<(), AllocError>
+        ensures { OnOk result ((own : List (List ℕ)) (theirs : List (List Fact)) (facts : List Fact) (f : Fact)
+            → number ≡ length theirs → IsPlaceOf own facts f place → IsBehindFact f scan.now
+            → AreMarks first.now theirs own facts self.old
+            → AreMarks first.now theirs own (facts ++ f ∷ []) self.new) }
     {
-        if !chosen.is_taken(place.target) {
+        if !first.chosen.is_taken(place.target) {
             return Ok(());
         }
         match place.kind {
-            FactKind::Count | FactKind::Diagnostic => Ok(()),
+            FactKind::Count | FactKind::Diagnostic => {
+                add_other(alloc, first.noting, scan, &mut self.others)
+            }
             FactKind::Failed => {
                 self.failed = true;
-                Ok(())
+                add_other(alloc, first.noting, scan, &mut self.others)
             }
             FactKind::Record => self.runs.put(Run {
                 position: place.number,

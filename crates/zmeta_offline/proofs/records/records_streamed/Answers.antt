@@ -5,6 +5,7 @@ use Rattle.zmeta_devices.specs.Devices.{outputs}
 use Rattle.zmeta_offline.specs.Marked.{AreMarked, ScanFilesResult}
 use Rattle.zmeta_offline.specs.Records.{extract}
 use Rattle.zmeta_offline.specs.declared.scanned.Marked.{Marked}
+use Rattle.zmeta_offline.specs.declared.scanned.Noting.TheVariants.{Failures}
 use Rattle.zmeta_offline.proofs.ScanningAll.{some_path}
 use Rattle.zmeta_offline.proofs.Streaming.{scan_refused, moved, rows_refused, no_lines, put_refused, streamed}
 use Rattle.zmeta_offline.proofs.records.records_streamed.Goals as goal
@@ -23,7 +24,7 @@ returns-in_err-chosen g c =
     scan_refused (extract c.args.wanted) octets paths
     (outputs g.W.Write.contents g.E.Write.contents c.args.output.now c.args.errors.now) c.in_err-chosen.field-0.0 p.0
     c.from_residual-in_err-chosen.result p.1 p.2
-    (subst (λ z. ScanFilesResult octets z (texts_of c.args.wanted.only.now) (Err c.in_err-chosen.field-0.0)) same
+    (subst (λ z. ScanFilesResult octets z (texts_of c.args.wanted.only.now) Failures (Err c.in_err-chosen.field-0.0)) same
     c.in_err-chosen.ensures)
 
 pub returns-in_err-last : goal.returns-in_err-last
@@ -34,8 +35,8 @@ returns-in_err-last g c =
     let e = extract c.args.wanted in
     let before = outputs g.W.Write.contents g.E.Write.contents c.args.output.now c.args.errors.now in
     let m : Marked = c.in_ok-chosen.field-0 in
-    let marked : AreMarked octets (first ∷ others) e.only m =
-    subst (λ z. AreMarked octets z e.only m) (ap texts_of c.as_slice.ensures.value ∙ c.in_ok-paths.ensures)
+    let marked : AreMarked octets (first ∷ others) e.only Failures m =
+    subst (λ z. AreMarked octets z e.only Failures m) (ap texts_of c.as_slice.ensures.value ∙ c.in_ok-paths.ensures)
     c.in_ok-chosen.ensures in
     let same : texts_of c.as_slice-2.result.now ≡ first ∷ others =
     ap texts_of c.as_slice-2.ensures.value ∙ c.in_ok-paths.ensures in
@@ -55,8 +56,8 @@ returns-in_err-lines g c =
     let e = extract c.args.wanted in
     let before = outputs g.W.Write.contents g.E.Write.contents c.args.output.now c.args.errors.now in
     let m : Marked = c.in_ok-chosen.field-0 in
-    let marked : AreMarked octets (first ∷ others) e.only m =
-    subst (λ z. AreMarked octets z e.only m) (ap texts_of c.as_slice.ensures.value ∙ c.in_ok-paths.ensures)
+    let marked : AreMarked octets (first ∷ others) e.only Failures m =
+    subst (λ z. AreMarked octets z e.only Failures m) (ap texts_of c.as_slice.ensures.value ∙ c.in_ok-paths.ensures)
     c.in_ok-chosen.ensures in
     let same : texts_of c.as_slice-2.result.now ≡ first ∷ others =
     ap texts_of c.as_slice-2.ensures.value ∙ c.in_ok-paths.ensures in
@@ -64,11 +65,11 @@ returns-in_err-lines g c =
     let mid = outputs g.W.Write.contents g.E.Write.contents c.write_rows.new.output c.args.errors.now in
     let written =
     moved e octets first others before m marked oid c.in_ok-syntax.ensures mid (texts_of c.as_slice-2.result.now)
-    c.as_slice-3.result.now same c.as_slice-3.ensures.value (Ok (c.in_ok-last.last, c.in_ok-last.left))
+    c.as_slice-3.result.now same c.as_slice-3.ensures.value (Ok (c.in_ok-last.last, c.in_ok-last.tally))
     c.in_ok-last.ensures in
     let p = err_from_is_err_and c.from_residual-in_err-lines.result c.from_residual-in_err-lines.ensures.1 in
     no_lines e octets first others before m marked oid c.in_ok-syntax.ensures mid refl c.in_ok-last.last
-    c.in_ok-last.left written p.0 c.from_residual-in_err-lines.result p.1 p.2
+    c.in_ok-last.tally written p.0 c.from_residual-in_err-lines.result p.1 p.2
 
 pub returns-in_err-put_records : goal.returns-in_err-put_records
 returns-in_err-put_records g c =
@@ -78,8 +79,8 @@ returns-in_err-put_records g c =
     let e = extract c.args.wanted in
     let before = outputs g.W.Write.contents g.E.Write.contents c.args.output.now c.args.errors.now in
     let m : Marked = c.in_ok-chosen.field-0 in
-    let marked : AreMarked octets (first ∷ others) e.only m =
-    subst (λ z. AreMarked octets z e.only m) (ap texts_of c.as_slice.ensures.value ∙ c.in_ok-paths.ensures)
+    let marked : AreMarked octets (first ∷ others) e.only Failures m =
+    subst (λ z. AreMarked octets z e.only Failures m) (ap texts_of c.as_slice.ensures.value ∙ c.in_ok-paths.ensures)
     c.in_ok-chosen.ensures in
     let same : texts_of c.as_slice-2.result.now ≡ first ∷ others =
     ap texts_of c.as_slice-2.ensures.value ∙ c.in_ok-paths.ensures in
@@ -87,12 +88,12 @@ returns-in_err-put_records g c =
     let mid = outputs g.W.Write.contents g.E.Write.contents c.write_rows.new.output c.args.errors.now in
     let written =
     moved e octets first others before m marked oid c.in_ok-syntax.ensures mid (texts_of c.as_slice-2.result.now)
-    c.as_slice-3.result.now same c.as_slice-3.ensures.value (Ok (c.in_ok-last.last, c.in_ok-last.left))
+    c.as_slice-3.result.now same c.as_slice-3.ensures.value (Ok (c.in_ok-last.last, c.in_ok-last.tally))
     c.in_ok-last.ensures in
     let p =
     err_from_is_err_and c.from_residual-in_err-put_records.result c.from_residual-in_err-put_records.ensures.1 in
     put_refused e octets first others before m marked oid c.in_ok-syntax.ensures mid refl c.in_ok-last.last
-    c.in_ok-last.left written c.as_slice-4.result.now c.as_slice-5.result.now
+    c.in_ok-last.tally written c.as_slice-4.result.now c.as_slice-5.result.now
     (outputs g.W.Write.contents g.E.Write.contents c.put_records.new.output c.put_records.new.errors)
     c.as_slice-4.ensures.value c.in_err-put_records.field-0.0 p.0 c.from_residual-in_err-put_records.result p.1 p.2
     c.in_err-put_records.ensures
@@ -105,8 +106,8 @@ returns g c =
     let e = extract c.args.wanted in
     let before = outputs g.W.Write.contents g.E.Write.contents c.args.output.now c.args.errors.now in
     let m : Marked = c.in_ok-chosen.field-0 in
-    let marked : AreMarked octets (first ∷ others) e.only m =
-    subst (λ z. AreMarked octets z e.only m) (ap texts_of c.as_slice.ensures.value ∙ c.in_ok-paths.ensures)
+    let marked : AreMarked octets (first ∷ others) e.only Failures m =
+    subst (λ z. AreMarked octets z e.only Failures m) (ap texts_of c.as_slice.ensures.value ∙ c.in_ok-paths.ensures)
     c.in_ok-chosen.ensures in
     let same : texts_of c.as_slice-2.result.now ≡ first ∷ others =
     ap texts_of c.as_slice-2.ensures.value ∙ c.in_ok-paths.ensures in
@@ -114,10 +115,10 @@ returns g c =
     let mid = outputs g.W.Write.contents g.E.Write.contents c.write_rows.new.output c.args.errors.now in
     let written =
     moved e octets first others before m marked oid c.in_ok-syntax.ensures mid (texts_of c.as_slice-2.result.now)
-    c.as_slice-3.result.now same c.as_slice-3.ensures.value (Ok (c.in_ok-last.last, c.in_ok-last.left))
+    c.as_slice-3.result.now same c.as_slice-3.ensures.value (Ok (c.in_ok-last.last, c.in_ok-last.tally))
     c.in_ok-last.ensures in
     streamed e octets first others before m marked oid c.in_ok-syntax.ensures mid refl c.in_ok-last.last
-    c.in_ok-last.left written c.as_slice-4.result.now c.as_slice-5.result.now
+    c.in_ok-last.tally written c.as_slice-4.result.now c.as_slice-5.result.now
     (outputs g.W.Write.contents g.E.Write.contents c.put_records.new.output c.put_records.new.errors)
     c.status_of.result c.as_slice-4.ensures.value (c.as_slice-5.ensures.value ∙ c.in_ok-lines.ensures)
     c.status_of.ensures c.in_ok-put_records.ensures

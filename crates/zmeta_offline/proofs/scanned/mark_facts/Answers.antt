@@ -7,7 +7,7 @@ use Rattle.zmeta_offline.proofs.Scanning.{if_err}
 use Rattle.zmeta_offline.proofs.scanned.mark_facts.Goals as goal
 
 pub loop-init : goal.loop-init
-loop-init g c = λ octets path own s. ([], s, λ names theirs count m. m)
+loop-init g c = λ octets path own s. ([], s, λ theirs count m. m)
 
 pub returns-in_err-go_on-clause-err : goal.returns-in_err-go_on-clause-err
 returns-in_err-go_on-clause-err g c =
@@ -23,13 +23,13 @@ returns-in_err-note-in-Fact-clause-err g c =
     if_err given.result _ p.0 _ p.1 p.2 (λ octets path own s. tt)
 
 pub returns-in-End-clause-ok : goal.returns-in-End-clause-ok
-returns-in-End-clause-ok g c = λ octets path names own theirs count s m.
+returns-in-End-clause-ok g c = λ octets path own theirs count s m.
     let h = c.loop.invariant octets path own s in
     let now = input_device g.R.Read.remaining c.go_on.new.file in
     let end : AfterEnd octets path (Some (own, h.0)) =
     subst (λ (r : Reached). AfterReached octets path now (Some (own, h.0)) r c.go_on.new.scan) c.in-End.is
     (c.in_ok-go_on.ensures.ok octets path (Some (own, h.0)) h.1) in
-    record { facts = h.0; has = end; marks = h.2 names theirs count m }
+    record { facts = h.0; has = end; marks = h.2 theirs count m }
 
 pub loop-preserved : goal.loop-preserved
 loop-preserved g c = λ octets path own s.
@@ -40,6 +40,7 @@ loop-preserved g c = λ octets path own s.
     (c.in_ok-go_on.ensures.ok octets path (Some (own, h.0)) h.1) in (
       h.0 ++ after.0 ∷ [],
       after.2,
-      λ names theirs count m.
-          c.in_ok-note-in-Fact.ensures names own theirs h.0 after.0 count after.1 (h.2 names theirs count m),
+      λ theirs count m.
+          c.in_ok-note-in-Fact.ensures own theirs h.0 after.0 count after.1
+          (after.2.input, own, h.0, after.2.scan) (h.2 theirs count m),
     )

@@ -11,5 +11,5 @@ invariant-loop g l =
     → IsScanning octets path (input_device g.R.Read.remaining l.initial.file) (Some (own, [])) l.initial.scan
     → (facts : List Fact)
     × IsScanning octets path (input_device g.R.Read.remaining l.file) (Some (own, facts)) l.scan
-    × ((names : List (List ℕ)) (theirs : List (List Fact)) → l.number ≡ length theirs
-    → AreMarks l.chosen names theirs own [] l.initial.marks → AreMarks l.chosen names theirs own facts l.marks)
+    × ((theirs : List (List Fact)) → l.number ≡ length theirs
+    → AreMarks l.first theirs own [] l.initial.marks → AreMarks l.first theirs own facts l.marks)

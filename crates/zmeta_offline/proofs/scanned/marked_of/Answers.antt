@@ -21,5 +21,5 @@ pub returns : goal.returns
 returns c = λ octets path paths s.
     let only = texts_of c.args.only.now in
     all_marked octets only path paths c.args.first c.args.marks s _
-    (subst (λ (names : List (List ℕ)). AreAllKnown only names) c.as_slice.ensures c.in-None.ensures) refl refl
+    (subst (λ (names : List (List ℕ)). AreAllKnown only names) c.as_slice.ensures c.in-None.ensures) refl refl refl refl
     c.in_ok-finish-in-None.ensures

@@ -45,9 +45,9 @@ returns-clause-ok g c =
     (ap (λ (b : Bor (List ℕ)). b.now) c.file_at-file.ensures.path) c.file_at-file.ensures.octets c.new-scan.ensures in
     let names = c.in_ok-read_names.ensures.ok octets path begun in
     let one = c.in_ok-first.first in
-    let first = c.in_ok-first.ensures names.0 (names.1.input, names.1.scan) in
-    let marked = c.in_ok-mark_facts.ensures.ok octets path one.names names.0 [] refl names.1
-    (marks_new one.chosen one.names names.0 _ c.new.ensures refl) in
+    let first = c.in_ok-first.ensures.first names.0 (names.1.input, names.1.scan) in
+    let marked = c.in_ok-mark_facts.ensures.ok octets path names.0 [] refl names.1
+    (marks_new one names.0 _ c.new.ensures refl c.new-2.ensures) in
     first_scanned octets (texts_of c.args.only.now) path one c.mark_facts.new.marks first.1
-    (subst (λ (own : List (List ℕ)). IsMarkedFile octets path one.chosen one.names [] own c.mark_facts.new.marks)
+    (subst (λ (own : List (List ℕ)). IsMarkedFile octets path one [] own c.mark_facts.new.marks)
     (sym first.0) marked)

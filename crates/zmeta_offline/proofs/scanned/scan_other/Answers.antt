@@ -45,9 +45,9 @@ returns-then-same-clause-ok g c = λ only paths count s.
     let tells = c.has_names-same.ensures first.names names.0 (names.1.input, names.1.scan) s.first_is.fits
     (c.as_slice.ensures.value ∙ s.first_is.element) in
     other_scanned octets only paths names.0 path first c.args.marks.now c.mark_facts.new.marks s
-    (tells.0 c.if-same.true) (c.in_ok-mark_facts.ensures.ok octets path first.names names.0 s.theirs
+    (tells.0 c.if-same.true) (c.in_ok-mark_facts.ensures.ok octets path names.0 s.theirs
     (count ∙ sym (each_count octets first.names paths s.theirs s.saved)) names.1
-    (marks_begun first.chosen first.names s.theirs names.0 c.args.marks.now s.marks))
+    (marks_begun first s.theirs names.0 c.args.marks.now s.marks))
 
 pub returns-clause-err : goal.returns-clause-err
 returns-clause-err g c = λ only paths count s.
@@ -60,9 +60,9 @@ returns-clause-err g c = λ only paths count s.
     let names = c.in_ok-read_names.ensures.ok octets path begun in
     let tells = c.has_names-same.ensures first.names names.0 (names.1.input, names.1.scan) s.first_is.fits
     (c.as_slice.ensures.value ∙ s.first_is.element) in
-    let marked = c.in_ok-mark_facts.ensures.ok octets path first.names names.0 s.theirs
+    let marked = c.in_ok-mark_facts.ensures.ok octets path names.0 s.theirs
     (count ∙ sym (each_count octets first.names paths s.theirs s.saved)) names.1
-    (marks_begun first.chosen first.names s.theirs names.0 c.args.marks.now s.marks) in
+    (marks_begun first s.theirs names.0 c.args.marks.now s.marks) in
     record {
       others = names.0;
       facts = marked.facts;
