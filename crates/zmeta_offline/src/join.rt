@@ -89,8 +89,8 @@ fn join_files<'a, 'o: 'a, F: Folder, W: Write>(
     put_list(output, text.as_slice(), status)
 }
 
-/// Prints the list of all facts of the saved files at these paths, and saves these facts in one file, which is made at the
-/// path `saved`, whatever becomes of the list.
+/// Prints the list of all facts of the saved files at these paths, and saves these facts in one file, which is made at
+/// the path `saved`, whatever becomes of the list.
 ///
 /// If a file is refused, or has other names than those before it, writes the reason on `errors`; nothing is printed or
 /// saved.
