@@ -3,9 +3,9 @@
 with the next, and with all that follow.
 
 A run has to end with status 4, `out of memory` and nothing printed, or as it does with ample memory. One that saves a
-file may have printed all, and leaves the older file as it is, or saves. A list of saved files that are read twice may
-have been printed in part: a front of what is due. A test has to tell that it wants memory while it makes itself ready,
-and from then on to pass: what it tests asks again where memory was refused, and has to answer the same.
+file may have printed all, and leaves the older file as it is, or saves. A test has to tell that it wants memory while
+it makes itself ready, and from then on to pass: what it tests asks again where memory was refused, and has to answer
+the same.
 
     python3 tests/out-of-memory/check.py     (once the program and the vectors are built; ZMETA may name another build)
 """
@@ -115,19 +115,13 @@ def run(room, words, file, first, last):
     return (ran.returncode, ran.stdout, ran.stderr, content(saved) if saves else None), int(content(count))
 
 
-def is_stream(words):
-    """Whether a run prints while it reads saved files the second time."""
-    return words[0] == "join" and not {"--save", "--titles"} & {*words}
-
-
-def is_refused(words, answer, ample):
+def is_refused(answer, ample):
     """Whether memory was refused, and is said to be."""
     status, printed, told, saved = answer
     # (the file is saved also if no memory is found for the list)
     if saved is not None and (saved not in (OLDER, ample[3]) or printed not in (b"", ample[1])):
         return False
-    stands = not printed or is_stream(words) and ample[1].startswith(printed)
-    return status == 4 and (saved is not None or stands) and told.endswith(b"out of memory\n")
+    return status == 4 and (saved is not None or not printed) and told.endswith(b"out of memory\n")
 
 
 def look_at_run(room, words, file):
@@ -137,7 +131,7 @@ def look_at_run(room, words, file):
     refused = [(number, last) for number in range(1, count + 1) for last in (number, number + 1, ALL)]
     answers = POOL.map(lambda it: run(room, [ZMETA, *words], file, *it), refused)
     for (number, last), (answer, _) in zip(refused, answers):
-        if answer != ample and not is_refused(words, answer, ample):
+        if answer != ample and not is_refused(answer, ample):
             return f"zmeta {' '.join(words)}: allocations {number} to {last} of {count} refused: {answer}"
     print(f"zmeta {' '.join(words)}: each of {count} allocations refused, with the next, and with all that follow")
     return None

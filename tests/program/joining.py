@@ -2,9 +2,9 @@
 
     ZMETA=PROGRAM python3 tests/program/joining.py
 
-The saved files are random, and are made here. A list and lines of JSON are printed while regular files are read, twice;
-what is no regular file is read whole, and all facts are in memory then. Both have to print the same, and so has the
-list of one file of all facts. Lists of large files have to stay within a fixed memory, and a file that changes
+The saved files are random, and are made here. All but a page is printed while regular files are read, twice or three
+times; what is no regular file is read whole, and all facts are in memory then. Both have to print the same, and so has
+the list of one file of all facts. Lists of large files have to stay within a fixed memory, and a file that changes
 meanwhile is refused.
 """
 
@@ -23,7 +23,7 @@ from saved import COUNT, DIAG, FAILED, MARC21, SEEN
 CASES = 50
 VIEWS = ((), ("--hex",), ("--json",), ("--titles",), ("--fields",), ("--html", "--heading", "all"))
 # views that are printed while files are read
-STREAMS = VIEWS[:3]
+STREAMS = VIEWS[:5]
 # sets of one record each, the last at the lowest position
 FALLING = 20_000
 
@@ -112,19 +112,37 @@ def falling(zmeta, room):
             yield f"joining, falling, {view}: status {found[0]}, {len(found[1])} octets, {took:.0f} seconds"
 
 
-def changing(zmeta, room):
-    """A file that is cut while its list is printed is refused, once the list comes to its end."""
-    path = os.path.join(room, "cut")
-    facts = [saved.fact(SEEN, 0, 1, it, saved.record(MARC21, b"%0*d" % (RECORD, it))) for it in range(1, LARGE + 1)]
-    write(path, saved.named(NAMES) + b"".join(facts))
-    _, due, _ = through_pipe(zmeta, room, "cut", ["cut"], "join")
-    with subprocess.Popen([zmeta, "join", path], stdout=subprocess.PIPE, stderr=subprocess.PIPE) as child:
+def changed(zmeta, room, view, name, change):
+    """The file that NAME names is changed while it is printed, which ends with a refusal behind a front."""
+    path = os.path.join(room, name)
+    _, due, _ = through_pipe(zmeta, room, name, [*view, name], "join")
+    with subprocess.Popen([zmeta, "join", *view, path], stdout=subprocess.PIPE, stderr=subprocess.PIPE) as child:
         front = os.read(child.stdout.fileno(), 1)
         # it waits until more of what it prints is read
-        os.truncate(path, os.path.getsize(path) // 2)
+        change(path)
         rest, told = child.communicate(timeout=300)
     if child.returncode != 3 or told != f"zmeta: cannot read {path}\n".encode() or not due.startswith(front + rest):
-        yield f"list of a file that is cut: status {child.returncode}, {told}, {len(rest)} octets"
+        yield f"joining {name}, {view}, of a file that changes: {child.returncode}, {told}, {len(rest)} octets"
+
+
+def changing(zmeta, room):
+    """A file that is cut while it is printed is refused once the list comes to its end; one whose last record becomes
+    another catalogue's is so by the view, which has counted it before."""
+    facts = [saved.fact(SEEN, 0, 1, it, saved.record(MARC21, b"%0*d" % (RECORD, it))) for it in range(1, LARGE + 1)]
+    other = saved.fact(SEEN, 1, 1, LARGE, saved.record(MARC21, b"%0*d" % (RECORD, LARGE)))
+
+    def cut(path):
+        os.truncate(path, os.path.getsize(path) // 2)
+
+    def move(path):
+        with open(path, "r+b") as file:
+            file.seek(-len(other), os.SEEK_END)
+            file.write(other)
+
+    for name, views, change in (("cut", STREAMS, cut), ("moved", (("--titles",), ("--fields",)), move)):
+        for view in views:
+            write(os.path.join(room, name), saved.named(NAMES) + b"".join(facts))
+            yield from changed(zmeta, room, view, name, change)
 
 
 def faults(zmeta):

@@ -16,8 +16,9 @@ use Rattle.zknow_json.specs.Sets.{count_line, diag_line, failure_lines, set_line
 use Rattle.zknow_records.specs.Records.{rows}
 use Rattle.zknow_records.proofs.PartTheory.{flat_same}
 use Rattle.zmarc.specs.Charsets.{charset_at}
-use Rattle.zknow_forms.specs.Forms.{AreInParts, FormLaws}
+use Rattle.zknow_forms.specs.Forms.{AreInParts, FormLaws, IsToldMore}
 use Rattle.zknow_forms.specs.declared.form.Form.TheVariants as forms
+use Rattle.zknow_forms.specs.declared.tally.Tally.{Tally}
 use Rattle.zknow_forms.proofs.InParts.{others_same, others_none, rows_apart}
 
 -- the keys of the sets, in order
@@ -87,7 +88,15 @@ module _ (names : List (List ℕ)) where
     pub json_laws : FormLaws (forms.Json names) low high all
     json_laws = record {
       text = json_parts;
-      tally = λ parts. refl;
-      whole = λ plain parts none. json_parts parts;
-      told = λ parts none. refl;
+      whole = λ parts none. json_parts parts;
+      told = λ parts none tally told. record {
+        left = told.left;
+        columns = told.columns;
+        positions = told.positions;
+      };
     }
+
+  -- the same tally tells of more facts
+  pub json_more : (high : List Fact) (tally : Tally) → IsToldMore (forms.Json names) high tally tally
+  json_more high tally low all told parts =
+      record { left = told.left; columns = told.columns; positions = told.positions }

@@ -1,6 +1,10 @@
+pub mod FilledForm
 pub mod FormTheory
+pub mod HeadForm
 pub mod InParts
 pub mod JsonForm
+pub mod Keys
 pub mod ListForm
 pub mod OctetsForm
 pub mod TitlesForm
+pub mod ViewForm

@@ -13,8 +13,9 @@ use Rattle.zknow.specs.List.Listing.{ascending, block_key_of, block_text, entry_
 use Rattle.zknow.specs.Tables.Keys.{set_cmp}
 use Rattle.zknow_records.specs.Records.{rows}
 use Rattle.zknow_records.proofs.PartTheory.{flat_same}
-use Rattle.zknow_forms.specs.Forms.{AreInParts, FormLaws, EmptyLaws}
+use Rattle.zknow_forms.specs.Forms.{AreInParts, FormLaws, EmptyLaws, IsToldMore}
 use Rattle.zknow_forms.specs.declared.form.Form.TheVariants as forms
+use Rattle.zknow_forms.specs.declared.tally.Tally.{Tally}
 use Rattle.zknow_forms.proofs.InParts.{others_same, others_none, lines_same, rows_apart}
 
 -- the keys of the blocks, in order
@@ -60,10 +61,18 @@ module _ (names : List (List ℕ)) (mode : Mode) where
     pub list_laws : FormLaws (forms.List names mode) low high all
     list_laws = record {
       text = list_parts;
-      tally = λ parts. refl;
-      whole = λ plain parts none. list_parts parts;
-      told = λ parts none. refl;
+      whole = λ parts none. list_parts parts;
+      told = λ parts none tally told. record {
+        left = told.left;
+        columns = told.columns;
+        positions = told.positions;
+      };
     }
 
   pub list_empty : EmptyLaws (forms.List names mode)
-  list_empty = record { text = refl; tally = refl }
+  list_empty = record { text = refl }
+
+  -- the same tally tells of more facts
+  pub list_more : (high : List Fact) (tally : Tally) → IsToldMore (forms.List names mode) high tally tally
+  list_more high tally low all told parts =
+      record { left = told.left; columns = told.columns; positions = told.positions }

@@ -1,5 +1,5 @@
 -- The octets of records, and what is left out of them, in parts.
-use Rattle.std.proofs.Common.{◌≡◌, ℕ, Bool, true, false, List, [], Option, None, refl, ap, ◌∙◌, arith}
+use Rattle.std.proofs.Common.{◌≡◌, ℕ, Bool, true, false, List, [], Option, None, refl, sym, ap, ◌∙◌, arith}
 use Rattle.std.specs.Prelude.{if◌then◌else◌}
 use Rattle.std.specs.List.{flat_map, count_by}
 use Rattle.zknow.specs.declared.fact.Fact.{Fact}
@@ -9,30 +9,11 @@ use Rattle.zknow_records.specs.Records.{is_unwanted, is_diagnostic, is_other, is
 use Rattle.zknow_records.specs.declared.left_out.LeftOut.{LeftOut}
 use Rattle.zknow_records.proofs.PartTheory.{octets_in_parts, left_in_parts}
 use Rattle.zknow_records.proofs.Taking.{same_left}
-use Rattle.zknow_titles.specs.declared.rows.Widths.{Widths}
-use Rattle.zknow_forms.specs.Forms.{none_left, no_widths, AreInParts, AreOthers, FormLaws, EmptyLaws}
+use Rattle.zknow_titles.specs.Blocks.{filled_at}
+use Rattle.zknow_forms.specs.Forms.{none_left, AreInParts, AreOthers, FormLaws, EmptyLaws, IsToldMore}
 use Rattle.zknow_forms.specs.declared.form.Form.TheVariants as forms
 use Rattle.zknow_forms.specs.declared.tally.Tally.{Tally}
 use Rattle.zknow_forms.proofs.InParts.{record_parts, rows_none}
-
--- what is told of octets of which this was left out
-abbrev told_left : LeftOut → Tally
-told_left left = record { left = left; widths = no_widths }
-
--- what is told with these columns
-abbrev with_widths : LeftOut → Widths → Tally
-with_widths left w = record { left = left; widths = w }
-
-same_widths : (p q m n : ℕ) → p ≡ q → m ≡ n
-    → ◌≡◌ {A = Widths} (record { position = p; name = m }) (record { position = q; name = n })
-same_widths p q m n one two = rw (one, two) refl
-
--- columns of 0 are no columns
-pub no_columns_told : (left more : LeftOut) (w : Widths) → left ≡ more → w.position ≡ 0 → w.name ≡ 0
-    → ◌≡◌ {A = Tally} (record { left = left; widths = w }) (record { left = more; widths = no_widths })
-no_columns_told left more w same position name =
-    ap (λ (l : LeftOut). with_widths l w) same
-    ∙ ap (with_widths more) (same_widths w.position 0 w.name 0 position name)
 
 -- what is left out of these rows
 abbrev left_of : Option (List ℕ) → Bool → List Fact → List RowKey → LeftOut
@@ -70,10 +51,29 @@ module _ (syntax : Option (List ℕ)) (conflicts : Bool) where
     pub octets_laws : FormLaws (forms.Octets syntax conflicts) low high all
     octets_laws = record {
       text = λ parts. octets_in_parts syntax conflicts low high all (record_parts low high all parts);
-      tally = λ parts. ap told_left (left_in_parts syntax conflicts low high all (record_parts low high all parts));
-      whole = λ plain parts none. octets_in_parts syntax conflicts low high all (record_parts low high all parts);
-      told = λ parts none. ap told_left (left_told parts none);
+      whole = λ parts none. octets_in_parts syntax conflicts low high all (record_parts low high all parts);
+      told = λ parts none tally told. record {
+        left = told.left ∙ sym (left_told parts none);
+        columns = told.columns;
+        positions = told.positions;
+      };
     }
 
   pub octets_empty : EmptyLaws (forms.Octets syntax conflicts)
-  octets_empty = record { text = refl; tally = ap told_left (nothing_left syntax conflicts []) }
+  octets_empty = record { text = refl }
+
+  -- nothing is left out of no facts
+  pub octets_told : left_out syntax conflicts [] ≡ none_left
+  octets_told = nothing_left syntax conflicts []
+
+  -- a tally to which what is left out was added tells of more facts
+  pub octets_more : (high : List Fact) (before after : Tally)
+      → after.left ≡ left_sum before.left (left_out syntax conflicts high) → after.widths ≡ before.widths
+      → after.filled ≡ before.filled → IsToldMore (forms.Octets syntax conflicts) high before after
+  octets_more high before after left columns filled low all told parts =
+      record {
+        left = left ∙ ap (λ (l : LeftOut). left_sum l (left_out syntax conflicts high)) told.left
+            ∙ sym (left_in_parts syntax conflicts low high all (record_parts low high all parts));
+        columns = columns ∙ told.columns;
+        positions = λ b. ap (λ table. filled_at table.entries b) filled ∙ told.positions b;
+      }

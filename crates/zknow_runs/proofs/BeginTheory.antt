@@ -1,12 +1,12 @@
 -- The records by position before any was read.
-use Rattle.std.proofs.Common.{◌≡◌, ◌⊎◌, ◌↔◌, ◌+◌, ◌<◌, ◌≤ℤ◌, ℕ, ℤ, List, [], ◌∷◌, ◌++◌, length, take, get_or, Option, None, sym, ap, subst, ◌∙◌, inl, inr, ⊎_elim}
+use Rattle.std.proofs.Common.{◌≡◌, ◌⊎◌, ◌↔◌, ◌+◌, ◌<◌, ◌≤ℤ◌, ℕ, ℤ, List, [], ◌∷◌, ◌++◌, length, take, get_or, Option, None, sym, ap, append-nil, subst, ◌∙◌, inl, inr, ⊎_elim}
 use Rattle.std.proofs.lemmas.List.{take_more}
 use Rattle.std.proofs.lemmas.List.Elements.{Contains-append_left, Contains-append_right, Contains-append_cases, Contains-push_cases, Contains-push}
 use Rattle.std.specs.Prelude.{Contains, IfSome}
 use Rattle.zknow.specs.declared.fact.Fact.{Fact}
 use Rattle.zknow.specs.Facts.{AreFacts}
 use Rattle.zknow.specs.Tables.DistinctLaws.{none_in_nil, in_cons, in_head, in_tail}
-use Rattle.zknow_forms.specs.Forms.{none_left, no_widths}
+use Rattle.zknow_forms.specs.Forms.{IsTold}
 use Rattle.zknow_forms.proofs.FormTheory.{form_laws_hold}
 use Rattle.zknow_runs.proofs.UnionTheory.{no_facts}
 use Rattle.zknow_runs.specs.declared.rows.Next.{Next}
@@ -60,15 +60,17 @@ same_more runs waiting more i d lt same put r =
 -- ---- nothing was read
 
 pub begun : (files : ℕ → Option (List ℕ)) (wanted : Fact → Type 0) (unknown : Type 0) (t : Taking) (runs : List Run)
-    (rows : Rows) → rows.taking ≡ t → rows.next ≡ None → rows.gathered ≡ [] → rows.position ≡ None
-    → kept_octets rows ≡ [] → rows.tally ≡ record { left = none_left; widths = no_widths }
-    → AreSameRuns runs rows.runs → AreAllWanted files wanted unknown runs
+    (rows : Rows) → rows.chosen ≡ t.chosen → rows.form ≡ t.form → rows.next ≡ None → rows.gathered ≡ []
+    → rows.position ≡ None
+    → kept_octets rows ≡ t.head.items → IsTold t.form.now [] rows.tally → AreSameRuns runs rows.runs
+    → AreAllWanted files wanted unknown runs
     → HoldsRows files wanted unknown t [] [] rows
-begun files wanted unknown t runs rows taking next gathered position octets tally same all =
+begun files wanted unknown t runs rows chosen form next gathered position octets told same all =
     let nothing : (f : Fact) → Contains rows.gathered f → ⊥ = λ f here. none_in_nil f (subst
     (λ (l : List Fact). Contains l f) gathered here) in
     record {
-      taking = taking;
+      chosen = chosen;
+      form = form;
       low_facts = no_facts;
       gathered_facts = subst AreFacts (sym gathered) no_facts;
       complete = λ f is. let one = all.complete f is in inr (inr (one.0, back one.0 one.1, one.2));
@@ -78,8 +80,11 @@ begun files wanted unknown t runs rows taking next gathered position octets tall
       at = λ f none. absurd (nothing f none);
       above = λ r here. subst (λ (o : Option ℤ). IfSome o (λ q. q ≤ℤ r.position)) (sym position) tt;
       least = λ n r is due here. absurd cc;
-      written = octets ∙ sym (form_laws_hold.empty t.form).text;
-      told = tally ∙ sym (form_laws_hold.empty t.form).tally;
+      written =
+          octets
+          ∙ sym (append-nil t.head.items)
+          ∙ ap (λ (l : List ℕ). t.head.items ++ l) (sym (form_laws_hold.empty t.form.now).text);
+      told = told;
     }
   where
     left_is : left_runs rows ≡ rows.runs

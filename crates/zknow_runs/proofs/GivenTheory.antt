@@ -12,7 +12,7 @@ use Rattle.zknow.specs.List.Listing.{block_key_of}
 use Rattle.zknow.specs.Saved.SavedFacts.{saved_fact}
 use Rattle.zknow.specs.Tables.DistinctLaws.{none_in_nil, in_cons, in_head, in_tail}
 use Rattle.zknow.proofs.SavedTheory.OneElement.{one_element, element_some}
-use Rattle.zknow_forms.specs.Forms.{AreInParts, form_text, form_tally, tally_sum}
+use Rattle.zknow_forms.specs.Forms.{AreInParts, form_text, IsTold}
 use Rattle.zknow_forms.specs.declared.tally.Tally.{Tally}
 use Rattle.zknow_forms.proofs.FormTheory.{form_laws_hold}
 use Rattle.zknow_runs.specs.Rows.{IsAt, IsTaken, AreElements, DoRise, HasFacts, IsCoveredBy, IsCovered, Owes, AreGiven, left_runs, kept_octets, HoldsRows, Holds, AreRows, AreRowsFront}
@@ -182,26 +182,34 @@ module _ (files : ℕ → Option (List ℕ)) (wanted : Fact → Type 0) (unknown
         parts_of rows.position low rows.gathered appended.0 h.low_facts h.gathered_facts appended.1 appended.2 h.below
         gathered_high
 
-    pub appended_octets : (octets : List ℕ)
-        → octets ≡ kept_octets rows ++ form_text t.form rows.gathered
-        → text ++ octets ≡ form_text t.form appended.0
-    appended_octets octets is =
-        let more : List ℕ = form_text t.form rows.gathered in
-        ap (λ (l : List ℕ). text ++ l) is
-        ∙ sym (append_assoc text (kept_octets rows) more)
+    -- the text of facts at other positions goes on behind what was written
+    written_on : (high all : List Fact) → AreInParts low high all
+        → text ++ (kept_octets rows ++ form_text t.form.now high) ≡ t.head.items ++ form_text t.form.now all
+    written_on high all parts =
+        let more : List ℕ = form_text t.form.now high in
+        sym (append_assoc text (kept_octets rows) more)
         ∙ ap (λ (l : List ℕ). l ++ more) h.written
-        ∙ sym ((form_laws_hold.parts t.form low rows.gathered appended.0).text appended_parts)
+        ∙ append_assoc t.head.items (form_text t.form.now low) more
+        ∙ ap (λ (l : List ℕ). t.head.items ++ l) (sym ((form_laws_hold.parts t.form.now low high all).text parts))
 
-    pub appended_tally : (tally : Tally) → tally ≡ tally_sum rows.tally (form_tally t.form rows.gathered)
-        → tally ≡ form_tally t.form appended.0
-    appended_tally tally is =
-        is
-        ∙ ap (λ (l : Tally). tally_sum l (form_tally t.form rows.gathered)) h.told
-        ∙ sym ((form_laws_hold.parts t.form low rows.gathered appended.0).tally appended_parts)
+    pub appended_octets : (octets : List ℕ)
+        → octets ≡ kept_octets rows ++ form_text t.form.now rows.gathered
+        → text ++ octets ≡ t.head.items ++ form_text t.form.now appended.0
+    appended_octets octets is =
+        ap (λ (l : List ℕ). text ++ l) is ∙ written_on rows.gathered appended.0 appended_parts
+
+    -- what is told of the gathered facts too, whatever was told before
+    abbrev pub TellsMore : Tally → Type 0
+    TellsMore tally =
+        (before all : List Fact) → IsTold t.form.now before rows.tally → AreInParts before rows.gathered all
+        → IsTold t.form.now all tally
+
+    pub appended_tally : (tally : Tally) → TellsMore tally → IsTold t.form.now appended.0 tally
+    appended_tally tally more = more low appended.0 h.told appended_parts
 
     -- ---- nothing is left of the runs
 
-    pub given_at_end : left_runs rows ≡ [] → AreGiven files wanted unknown t.chosen appended.0
+    pub given_at_end : left_runs rows ≡ [] → AreGiven files wanted unknown t.chosen.now appended.0
     given_at_end none = record {
       lawful = appended.1;
       complete =
@@ -214,19 +222,18 @@ module _ (files : ℕ → Option (List ℕ)) (wanted : Fact → Type 0) (unknown
     }
 
     pub rows_end : left_runs rows ≡ [] → (octets : List ℕ)
-        → octets ≡ kept_octets rows ++ form_text t.form rows.gathered → (tally : Tally)
-        → tally ≡ tally_sum rows.tally (form_tally t.form rows.gathered)
-        → AreRows files wanted unknown t (text ++ octets) tally
-    rows_end none octets is tally told = record {
+        → octets ≡ kept_octets rows ++ form_text t.form.now rows.gathered → (tally : Tally)
+        → TellsMore tally → AreRows files wanted unknown t (text ++ octets) tally
+    rows_end none octets is tally more = record {
       given = appended.0;
       are = given_at_end none;
       octets = appended_octets octets is;
-      tally = appended_tally tally told;
+      tally = appended_tally tally more;
     }
 
     -- ---- what was written is a front
 
-    module _ (taken : (f : Fact) → wanted f → IsTaken t.chosen f) where
+    module _ (taken : (f : Fact) → wanted f → IsTaken t.chosen.now f) where
       owed : OwedByAll (left_runs rows)
       owed = owed_by_all (left_runs rows) h.covered
 
@@ -280,7 +287,7 @@ module _ (files : ℕ → Option (List ℕ)) (wanted : Fact → Type 0) (unknown
           (λ left. Contains-append_right rows.gathered owed.0 f (owed.2 left.0 f left.1 left.2)) more))
           (h.complete f w)
 
-      are_given : AreGiven files wanted unknown t.chosen given.0
+      are_given : AreGiven files wanted unknown t.chosen.now given.0
       are_given = record {
         lawful = given.1;
         complete = λ f w. (given.2 f).1 (all_wanted f w);
@@ -293,18 +300,13 @@ module _ (files : ℕ → Option (List ℕ)) (wanted : Fact → Type 0) (unknown
       }
 
       front_of : AreRowsFront files wanted unknown t text
-      front_of =
-          let more : List ℕ = form_text t.form high.0 in
-          record {
-            given = given.0;
-            rest = kept_octets rows ++ more;
-            are = are_given;
-            octets =
-                sym (append_assoc text (kept_octets rows) more)
-                ∙ ap (λ (l : List ℕ). l ++ more) h.written
-                ∙ sym ((form_laws_hold.parts t.form low high.0 given.0).text front_parts);
-          }
+      front_of = record {
+        given = given.0;
+        rest = kept_octets rows ++ form_text t.form.now high.0;
+        are = are_given;
+        octets = written_on high.0 given.0 front_parts;
+      }
 
   pub rows_front : (t : Taking) (text : List ℕ) (rows : Rows) → Holds files wanted unknown t text rows
-      → ((f : Fact) → wanted f → IsTaken t.chosen f) → AreRowsFront files wanted unknown t text
+      → ((f : Fact) → wanted f → IsTaken t.chosen.now f) → AreRowsFront files wanted unknown t text
   rows_front t text rows holds taken = front_of t text holds.0 rows holds.1 taken

@@ -4,6 +4,7 @@ use Rattle.std.proofs.lemmas.Int.{ints}
 use Rattle.std.proofs.lemmas.Bool.Decides.{nat_tests}
 use Rattle.std.proofs.lemmas.List.Elements.{Contains-append_right}
 use Rattle.std.specs.Prelude.{Contains, IfSome, IfOk, nat_lt, if◌then◌else◌}
+use Rattle.std.specs.Borrow.{Bor}
 use Rattle.std.specs.declared.alloc.AllocError.{AllocError}
 use Rattle.zknow.specs.declared.fact.Fact.{Fact}
 use Rattle.zknow.specs.Facts.{AreFacts}
@@ -11,7 +12,9 @@ use Rattle.zknow.specs.Saved.Fronts.{IsTakenFront}
 use Rattle.zknow.specs.Saved.SavedFacts.{saved_fact}
 use Rattle.zknow.specs.Tables.DistinctLaws.{none_in_nil, in_cons, in_head, each_in}
 use Rattle.zknow.specs.Tables.Join.{IsUnion}
-use Rattle.zknow_forms.specs.Forms.{form_text, form_tally, tally_sum}
+use Rattle.zknow_forms.specs.Forms.{AreInParts, form_text, IsTold}
+use Rattle.zknow_forms.specs.declared.form.Form.{Form}
+use Rattle.zknow_runs.specs.declared.rows.Chosen.{Chosen}
 use Rattle.zknow_runs.specs.declared.rows.Next.{Next}
 use Rattle.zknow_runs.specs.declared.rows.ReadStep.{ReadStep}
 use Rattle.zknow_runs.specs.declared.rows.ReadStep.TheVariants as steps
@@ -24,7 +27,7 @@ use Rattle.zknow_runs.specs.RowSteps.{next_behind, rest_of, HasAppended, HasTurn
 use Rattle.zknow_runs.proofs.BeginTheory.{put_cases}
 use Rattle.zknow_runs.proofs.RowTheory.{owed, rest_covered, wanted_or, placed_covered, placed_owes, owes_none}
 use Rattle.zknow_runs.proofs.UnionTheory.{Joined, no_facts}
-use Rattle.zknow_runs.proofs.GivenTheory.{appended, appended_octets, appended_tally, rows_end}
+use Rattle.zknow_runs.proofs.GivenTheory.{appended, TellsMore, appended_octets, appended_tally, rows_end}
 
 none_some : (n : Next) → None ≡ Some n → ⊥
 none_some n is = absurd cc
@@ -52,7 +55,8 @@ module _ (files : ℕ → Option (List ℕ)) (wanted : Fact → Type 0) (unknown
   turned_next low old number run rest none was least h =
       let same : left_runs old ≡ run ∷ rest = ap (λ (n : Option Next). next_run n ++ old.runs) none ∙ was in
       record {
-        taking = h.taking;
+        chosen = h.chosen;
+        form = h.form;
         low_facts = h.low_facts;
         gathered_facts = h.gathered_facts;
         complete = λ f is. subst (λ (l : List Run). Contains low f ⊎ (Contains old.gathered f ⊎
@@ -80,11 +84,12 @@ module _ (files : ℕ → Option (List ℕ)) (wanted : Fact → Type 0) (unknown
     all_low = appended files wanted unknown t text low old h
 
     module _ (mid : Rows) (a : HasAppended old mid) where
-      octets_are : kept_octets mid ≡ kept_octets old ++ form_text t.form old.gathered
-      octets_are = a.octets ∙ ap (λ (z : Taking). kept_octets old ++ form_text z.form old.gathered) h.taking
+      octets_are : kept_octets mid ≡ kept_octets old ++ form_text t.form.now old.gathered
+      octets_are = a.octets ∙ ap (λ (z : Bor Form). kept_octets old ++ form_text z.now old.gathered) h.form
 
-      tally_is : mid.tally ≡ tally_sum old.tally (form_tally t.form old.gathered)
-      tally_is = a.tally ∙ ap (λ (z : Taking). tally_sum old.tally (form_tally z.form old.gathered)) h.taking
+      tells_more : TellsMore files wanted unknown t text low old h mid.tally
+      tells_more = subst (λ (z : Bor Form). (before all : List Fact) → IsTold z.now before old.tally
+          → AreInParts before old.gathered all → IsTold z.now all mid.tally) h.form a.tally
 
       same_left : left_runs mid ≡ left_runs old
       same_left = ap (λ (n : Option Next). next_run n ++ mid.runs) a.next ∙ ap
@@ -94,7 +99,8 @@ module _ (files : ℕ → Option (List ℕ)) (wanted : Fact → Type 0) (unknown
           → ((r : Run) → Contains (left_runs old) r → position ≤ℤ r.position)
           → Are all_low.0 (record mid { position = Some position })
       turned_on position other above all_above = record {
-        taking = a.taking ∙ h.taking;
+        chosen = a.chosen ∙ h.chosen;
+        form = a.form ∙ h.form;
         low_facts = all_low.1;
         gathered_facts = subst AreFacts (sym a.gathered) no_facts;
         complete = λ f is. ⊎_elim
@@ -116,7 +122,7 @@ module _ (files : ℕ → Option (List ℕ)) (wanted : Fact → Type 0) (unknown
         least = λ n r is due here. h.least n r (sym a.next ∙ is) due (subst
             (λ (l : List Run). Contains l r) a.runs here);
         written = appended_octets files wanted unknown t text low old h (kept_octets mid) octets_are;
-        told = appended_tally files wanted unknown t text low old h mid.tally tally_is;
+        told = appended_tally files wanted unknown t text low old h mid.tally tells_more;
       }
         where
           was_below : (f : Fact) → Contains low f → (p q : ℤ) × IsAt p f × (Some position ≡ Some q) × (p <ℤ q)
@@ -138,7 +144,7 @@ module _ (files : ℕ → Option (List ℕ)) (wanted : Fact → Type 0) (unknown
         → AreRows files wanted unknown t (text ++ kept_octets mid) mid.tally
     ended mid a none =
         rows_end files wanted unknown t text low old h none (kept_octets mid) (octets_are mid a) mid.tally
-        (tally_is mid a)
+        (tells_more mid a)
 
   -- ---- a record is gathered
 
@@ -189,12 +195,13 @@ module _ (files : ℕ → Option (List ℕ)) (wanted : Fact → Type 0) (unknown
             (arith, nat_tests, is)) h o)
 
     pub gathered : (facts : List Fact) → AreFacts facts → IsUnion (Contains mid.gathered) (λ g. g ≡ f) (Contains facts)
-        → place_of f ≡ Some (target, n.run.position) → is_taken t.chosen target ≡ true
+        → place_of f ≡ Some (target, n.run.position) → is_taken t.chosen.now target ≡ true
         → n.run.begin + size ≤ n.run.end → mid.position ≡ Some n.run.position → Are low mid
         → (new : Rows) → new ≡ record mid { gathered = new.gathered; next = rest_of n (n.run.begin + size) }
         → new.gathered ≡ facts → Are low new
     gathered facts lawful union place is_chosen within here_at h new is are = record {
-      taking = ap (λ (z : Rows). z.taking) is ∙ h.taking;
+      chosen = ap (λ (z : Rows). z.chosen) is ∙ h.chosen;
+      form = ap (λ (z : Rows). z.form) is ∙ h.form;
       low_facts = h.low_facts;
       gathered_facts = subst AreFacts (sym are) lawful;
       complete = λ g wants. ⊎_elim inl
@@ -205,7 +212,7 @@ module _ (files : ℕ → Option (List ℕ)) (wanted : Fact → Type 0) (unknown
           (h.complete g wants);
       sound = λ g here. ⊎_elim (λ in_low. h.sound g (inl in_low))
           (λ in_new. ⊎_elim (λ had. h.sound g (inr had))
-          (λ same. subst (λ (x : Fact). IsTaken t.chosen x × (wanted x ⊎ unknown)) (sym same) sound_f)
+          (λ same. subst (λ (x : Fact). IsTaken t.chosen.now x × (wanted x ⊎ unknown)) (sym same) sound_f)
           ((union g).0 (subst (λ (l : List Fact). Contains l g) are in_new))) here;
       covered = λ r here. ⊎_elim
           (λ rest. subst (IsCovered files wanted unknown) (sym rest.0)
@@ -225,7 +232,7 @@ module _ (files : ℕ → Option (List ℕ)) (wanted : Fact → Type 0) (unknown
           (rest_left r (subst (λ (l : List Run). Contains l r) left_is here)));
       least = λ m r some due here. absurd (not_due m (sym (ap (λ (z : Rows). z.next) is) ∙ some) due);
       written = ap (λ (z : Rows). text ++ kept_octets z) is ∙ h.written;
-      told = ap (λ (z : Rows). z.tally) is ∙ h.told;
+      told = subst (IsTold t.form.now low) (sym (ap (λ (z : Rows). z.tally) is)) h.told;
     }
       where
         position_is : new.position ≡ mid.position
@@ -237,7 +244,7 @@ module _ (files : ℕ → Option (List ℕ)) (wanted : Fact → Type 0) (unknown
         put_in : (g : Fact) → Contains mid.gathered g ⊎ (g ≡ f) → Contains new.gathered g
         put_in g one = subst (λ (l : List Fact). Contains l g) (sym are) ((union g).1 one)
 
-        sound_f : IsTaken t.chosen f × (wanted f ⊎ unknown)
+        sound_f : IsTaken t.chosen.now f × (wanted f ⊎ unknown)
         sound_f = (
           record {
             target = target;
@@ -280,7 +287,8 @@ module _ (files : ℕ → Option (List ℕ)) (wanted : Fact → Type 0) (unknown
         → (new : Rows) → IsPutAmong mid.runs new.runs (record n.run { position = position })
         → new ≡ record mid { runs = new.runs; next = None } → Are low new
     put_back position place above h new put is = record {
-      taking = ap (λ (z : Rows). z.taking) is ∙ h.taking;
+      chosen = ap (λ (z : Rows). z.chosen) is ∙ h.chosen;
+      form = ap (λ (z : Rows). z.form) is ∙ h.form;
       low_facts = h.low_facts;
       gathered_facts = subst AreFacts (sym (ap (λ (z : Rows). z.gathered) is)) h.gathered_facts;
       complete = λ g wants. ⊎_elim inl
@@ -309,7 +317,7 @@ module _ (files : ℕ → Option (List ℕ)) (wanted : Fact → Type 0) (unknown
           ((cases r).0 here));
       least = λ m r some due here. absurd (none_some m (sym (ap (λ (z : Rows). z.next) is) ∙ some));
       written = ap (λ (z : Rows). text ++ kept_octets z) is ∙ h.written;
-      told = ap (λ (z : Rows). z.tally) is ∙ h.told;
+      told = subst (IsTold t.form.now low) (sym (ap (λ (z : Rows). z.tally) is)) h.told;
     }
       where
         position_is : new.position ≡ mid.position
@@ -373,7 +381,7 @@ module _ (files : ℕ → Option (List ℕ)) (wanted : Fact → Type 0) (unknown
         let mid = turned due g.mid g.turned in (
           mid.facts,
           gathered mid.facts g.mid n octets f size g.target mid.next stand taken new.gathered g.lawful g.facts g.place
-              (subst (λ (z : Taking). is_taken z.chosen g.target ≡ true) h.taking g.taken) g.within mid.at mid.are new
+              (subst (λ (z : Bor Chosen). is_taken z.now g.target ≡ true) h.chosen g.taken) g.within mid.at mid.are new
               g.is refl,
         )
     taken_holds octets f size stand taken new (inr (late, (target, position, place, p))) = (

@@ -1,11 +1,11 @@
--- What was written is a front of the text of facts that may be given.
+-- What was written is a front of the head and the text of facts that may be given.
 use Rattle.std.specs.Prelude.{◌≡◌, ℕ, true, List, Contains}
 use Rattle.zknow.specs.declared.fact.Fact.{Fact}
 use Rattle.zknow_runs.specs.Rows.{IsTaken, AreRowsFront, Sources, HoldsOf}
 use Rattle.zknow_runs.specs.declared.rows.Rows.{Rows}
 use Rattle.zknow_runs.specs.declared.rows.Taking.{Taking}
 
--- the octets are a front of the text of facts that may be given
+-- the octets are a front of the head and the text of facts that may be given
 abbrev pub AreRowsFrontOf : Sources → Taking → List ℕ → Type 0
 AreRowsFrontOf s t text = AreRowsFront s.files (Contains s.known) (s.unknown ≡ true) t text
 
@@ -13,4 +13,4 @@ AreRowsFrontOf s t text = AreRowsFront s.files (Contains s.known) (s.unknown ≡
 abbrev pub AllRowLaws : Type 0
 AllRowLaws =
     (s : Sources) (t : Taking) (text : List ℕ) (rows : Rows) → HoldsOf s t text rows
-    → ((f : Fact) → Contains s.known f → IsTaken t.chosen f) → AreRowsFrontOf s t text
+    → ((f : Fact) → Contains s.known f → IsTaken t.chosen.now f) → AreRowsFrontOf s t text

@@ -3,7 +3,7 @@ use Rattle.std.specs.Prelude.{◌≡◌, ◌≢◌, ◌↔◌, ◌⊎◌, ◌+�
 use Rattle.zknow.specs.declared.fact.Fact.{Fact}
 use Rattle.zknow.specs.Facts.{AreFacts}
 use Rattle.zknow.specs.Tables.Join.{IsUnion}
-use Rattle.zknow_forms.specs.Forms.{form_text, form_tally, tally_sum}
+use Rattle.zknow_forms.specs.Forms.{AreInParts, form_text, IsTold}
 use Rattle.zknow_runs.specs.declared.rows.Next.{Next}
 use Rattle.zknow_runs.specs.declared.rows.ReadStep.{ReadStep}
 use Rattle.zknow_runs.specs.declared.rows.ReadStep.TheVariants as steps
@@ -26,13 +26,15 @@ rest_of n begin = if nat_lt begin n.run.end then Some (next_behind n begin) else
 
 -- the gathered records were appended, and the rest is as it was
 pub record HasAppended (old new : Rows) : Type 0 where
-  pub taking : new.taking ≡ old.taking
+  pub chosen : new.chosen ≡ old.chosen
+  pub form : new.form ≡ old.form
   pub runs : new.runs ≡ old.runs
   pub next : new.next ≡ old.next
   pub position : new.position ≡ old.position
   pub gathered : new.gathered ≡ []
-  pub octets : kept_octets new ≡ kept_octets old ++ form_text old.taking.form old.gathered
-  pub tally : new.tally ≡ tally_sum old.tally (form_tally old.taking.form old.gathered)
+  pub octets : kept_octets new ≡ kept_octets old ++ form_text old.form.now old.gathered
+  pub tally : (low all : List Fact) → IsTold old.form.now low old.tally → AreInParts low old.gathered all
+      → IsTold old.form.now all new.tally
 
 -- the position is this one, as it was, or another one was and its records were appended
 abbrev pub HasTurned : Rows → ℤ → Rows → Type 0
@@ -44,7 +46,7 @@ HasTurned old position new = ((new ≡ old) × (old.position ≡ Some position))
 pub record HasGathered (old : Rows) (n : Next) (f : Fact) (size : ℕ) (new : Rows) : Type 0 where
   pub target : ℕ
   pub place : place_of f ≡ Some (target, n.run.position)
-  pub taken : is_taken old.taking.chosen target ≡ true
+  pub taken : is_taken old.chosen.now target ≡ true
   pub within : n.run.begin + size ≤ n.run.end
   pub mid : Rows
   pub turned : HasTurned old n.run.position mid

@@ -6,7 +6,7 @@ use Rattle.zknow.specs.Encodings.{encoding}
 use Rattle.zknow.specs.Facts.{AreFacts}
 use Rattle.zknow.specs.Saved.SavedFacts.{saved_fact}
 use Rattle.zknow.specs.Saved.Saved.{IsWithinLimits}
-use Rattle.zknow_forms.specs.Forms.{form_text, form_tally}
+use Rattle.zknow_forms.specs.Forms.{form_text, IsTold}
 use Rattle.zknow_forms.specs.declared.tally.Tally.{Tally}
 use Rattle.zknow_runs.specs.declared.rows.Chosen.{Chosen}
 use Rattle.zknow_runs.specs.declared.rows.Next.{Next}
@@ -120,23 +120,24 @@ module _ (files : ℕ → Option (List ℕ)) (wanted : Fact → Type 0) (unknown
 
   -- ---- what was taken
 
-  -- The facts whose records were written: the text, and what was not handed out. Those that were gathered are at the
-  -- position, and what is left of the runs is not below it.
+  -- The facts whose records were written: what stands before them, their text, and what was not handed out. Those that
+  -- were gathered are at the position, and what is left of the runs is not below it.
   pub record HoldsRows (t : Taking) (text : List ℕ) (low : List Fact) (rows : Rows) : Type 0 where
-    pub taking : rows.taking ≡ t
+    pub chosen : rows.chosen ≡ t.chosen
+    pub form : rows.form ≡ t.form
     pub low_facts : AreFacts low
     pub gathered_facts : AreFacts rows.gathered
     pub complete : (f : Fact) → wanted f
         → Contains low f ⊎ (Contains rows.gathered f ⊎ ((r : Run) × Contains (left_runs rows) r × Owes r f))
-    pub sound : (f : Fact) → Contains low f ⊎ Contains rows.gathered f → IsTaken t.chosen f × (wanted f ⊎ unknown)
+    pub sound : (f : Fact) → Contains low f ⊎ Contains rows.gathered f → IsTaken t.chosen.now f × (wanted f ⊎ unknown)
     pub covered : (r : Run) → Contains (left_runs rows) r → IsCovered r
     pub below : (f : Fact) → Contains low f → (p q : ℤ) × IsAt p f × (rows.position ≡ Some q) × (p <ℤ q)
     pub at : (f : Fact) → Contains rows.gathered f → (p : ℤ) × IsAt p f × (rows.position ≡ Some p)
     pub above : (r : Run) → Contains (left_runs rows) r → IfSome rows.position (λ q. q ≤ℤ r.position)
     pub least : (n : Next) (r : Run) → rows.next ≡ Some n → n.is_due ≡ true → Contains rows.runs r
         → n.run.position ≤ℤ r.position
-    pub written : text ++ kept_octets rows ≡ form_text t.form low
-    pub told : rows.tally ≡ form_tally t.form low
+    pub written : text ++ kept_octets rows ≡ t.head.items ++ form_text t.form.now low
+    pub told : IsTold t.form.now low rows.tally
 
   -- so it is for some facts
   abbrev pub Holds : Taking → List ℕ → Rows → Type 0
@@ -150,19 +151,19 @@ module _ (files : ℕ → Option (List ℕ)) (wanted : Fact → Type 0) (unknown
 
   -- ---- the end
 
-  -- these are the text and the tally of all that was given
+  -- these are the head and the text, and the tally, of all that was given
   pub record AreRows (t : Taking) (text : List ℕ) (told : Tally) : Type 0 where
     pub given : List Fact
-    pub are : AreGiven t.chosen given
-    pub octets : text ≡ form_text t.form given
-    pub tally : told ≡ form_tally t.form given
+    pub are : AreGiven t.chosen.now given
+    pub octets : text ≡ t.head.items ++ form_text t.form.now given
+    pub tally : IsTold t.form.now given told
 
-  -- these octets are a front of the text of facts that may be given
+  -- these octets are a front of the head and the text of facts that may be given
   pub record AreRowsFront (t : Taking) (text : List ℕ) : Type 0 where
     pub given : List Fact
     pub rest : List ℕ
-    pub are : AreGiven t.chosen given
-    pub octets : text ++ rest ≡ form_text t.form given
+    pub are : AreGiven t.chosen.now given
+    pub octets : text ++ rest ≡ t.head.items ++ form_text t.form.now given
 
 -- ---- what is read next
 
@@ -197,6 +198,6 @@ HoldsOf s t text rows = Holds s.files (Contains s.known) (s.unknown ≡ true) t 
 abbrev pub AfterReadOf : Sources → Taking → List ℕ → Rows → ReadStep → Type 0
 AfterReadOf s t text rows step = AfterRead s.files (Contains s.known) (s.unknown ≡ true) t text rows step
 
--- these are the text and the tally of all that was given
+-- these are the head and the text, and the tally, of all that was given
 abbrev pub AreRowsOf : Sources → Taking → List ℕ → Tally → Type 0
 AreRowsOf s t text told = AreRows s.files (Contains s.known) (s.unknown ≡ true) t text told

@@ -21,11 +21,13 @@ pub struct Chosen {
     pub others: bool,
 }
 
-/// Which records are taken, and the form of their text.
+/// Which records are taken, the form of their text, and what stands before it.
 #[derive(Drop)]
-pub struct Taking {
-    pub chosen: Chosen,
-    pub form: Form,
+pub struct Taking<'t> {
+    pub chosen: &'t Chosen,
+    pub form: &'t Form,
+    /// The octets before the text of the records.
+    pub head: Vec<u8>,
 }
 
 /// The run of which a record is read next.
@@ -62,15 +64,17 @@ pub enum ReadStep {
 
 /// The records of runs that are taken by position. Those of one position are in memory.
 #[derive(Drop)]
-pub struct Rows {
+pub struct Rows<'t> {
     alloc: Global,
-    taking: Taking,
+    chosen: &'t Chosen,
+    form: &'t Form,
     runs: OpenRuns,
     next: Option<Next>,
     /// The records at the position.
     gathered: Knowledge,
     position: Option<i64>,
-    /// The octets of the text of the records at lower positions that were not handed out.
+    /// The octets that were not handed out, of what stands before the text and of that of the records at lower
+    /// positions.
     octets: Vec<u8>,
     /// What is told of the records at lower positions.
     tally: Tally,
@@ -118,24 +122,26 @@ fn rest_of(next: Next, begin: u64) -> Option<Next>
     })
 }
 
-impl Rows {
+impl<'t> Rows<'t> {
     /// Returns the records of runs of which nothing was read.
-    pub fn new(alloc: Global, taking: Taking, runs: &[Run]) -> Result<Rows, AllocError>
-        ensures { IfOk result (λ rows. (s : Sources) → AreRunsIn s runs.now → HoldsOf s taking [] rows) }
+    pub fn new(alloc: Global, taking: Taking<'t>, runs: &[Run]) -> Result<Rows<'t>, AllocError>
+        ensures { IfOk result (λ rows. (s : Sources) → AreRunsIn s runs.now → HoldsOf s taking.entry [] rows) }
     {
+        let Taking { chosen, form, head } = taking;
         let mut waiting = OpenRuns::new(alloc);
         for (number, run) in runs.iter().enumerate() {
             waiting.put(OpenRun { number, run: *run })?;
         }
         Ok(Rows {
             alloc,
-            taking,
+            chosen,
+            form,
             runs: waiting,
             next: None,
             gathered: Knowledge::new(alloc),
             position: None,
-            octets: Vec::new(alloc),
-            tally: Tally::default(),
+            octets: head,
+            tally: Tally::new(alloc),
         })
     }
 
@@ -242,7 +248,7 @@ impl Rows {
         let Some(begin) = next.run.begin.checked_add(size) else {
             return Ok(ReadStep::Changed);
         };
-        let is_taken = self.taking.chosen.is_taken(target);
+        let is_taken = self.chosen.is_taken(target);
         if !is_taken || position != next.run.position || begin > next.run.end {
             return Ok(ReadStep::Changed);
         }
@@ -286,18 +292,14 @@ impl Rows {
     fn append(&mut self) -> Result<(), AllocError>
         ensures { OnOk result (HasAppended self.old self.new) }
     {
-        let more = self
-            .taking
-            .form
-            .write(self.alloc, &self.gathered, &mut self.octets)?;
+        self.form.write(
+            self.alloc,
+            &self.gathered,
+            &mut self.octets,
+            &mut self.tally,
+        )?;
         self.gathered = Knowledge::new(self.alloc);
-        match self.tally.checked_add(more) {
-            None => Err(AllocError),
-            Some(sum) => {
-                self.tally = sum;
-                Ok(())
-            }
-        }
+        Ok(())
     }
 
     /// Returns the octets that were not handed out.
@@ -318,13 +320,14 @@ impl Rows {
     /// Returns the octets that were not handed out, of the last records too, and what is told of all records. Returns
     /// `AllocError` if no memory is found, or if a count of the tally passes 64 bits.
     pub fn finish(mut self) -> Result<(Vec<u8>, Tally), AllocError>
-        ensures { IfOk result (λ r. (s : Sources) (t : Taking) (text : List ℕ) → HoldsOf s t text self
-            → left_runs self ≡ [] → AreRowsOf s t (text ++ r.0.items) r.1) }
+        ensures { IfOk result (λ r. (s : Sources) (t : Taking) (text : List ℕ) → HoldsOf s t text self.entry
+            → left_runs self.entry ≡ [] → AreRowsOf s t (text ++ r.0.items) r.1) }
     {
         self.append()?;
         let Rows {
             alloc: _,
-            taking: _,
+            chosen: _,
+            form: _,
             runs: _,
             next: _,
             gathered: _,

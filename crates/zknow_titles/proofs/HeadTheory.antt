@@ -13,8 +13,8 @@ use Rattle.zmarc.specs.declared.charset.Charset.{Charset}
 use Rattle.zknow_stops.specs.declared.stop.Stop.{Stop}
 use Rattle.zknow_titles.specs.declared.wholes.Extent.{Extent}
 use Rattle.zknow_titles.specs.declared.wholes.Extent.TheVariants.{Title, Whole}
-use Rattle.zknow_titles.specs.Blocks.{block_line}
-use Rattle.zknow_titles.specs.Heads.{front_count, head_lines}
+use Rattle.zknow_titles.specs.Blocks.{block_line, filled_in}
+use Rattle.zknow_titles.specs.Heads.{front_count, head_lines_with}
 use Rattle.zknow_titles.specs.Laws.{AreQuiet, QuietLaw, QuietRecordsLaw}
 use Rattle.zknow_titles.specs.Lines.{ended}
 use Rattle.zknow_titles.specs.Names.{shown_names}
@@ -54,16 +54,18 @@ all_appended before headed gapped whole octets again head found lines rows same 
 
 -- ---- without stops
 
-quiet_head : (shown : List (List ℕ)) (facts : List Fact) (target : ℕ) (stops : List (Option Stop)) (sets : List SetKey)
-    → AreQuiet stops → head_lines shown facts target stops sets ≡ map (block_line shown facts) sets
-quiet_head shown facts target [] sets h = refl
-quiet_head shown facts target (None ∷ stops) sets h =
+quiet_head : (filled : SetKey → ℕ) (shown : List (List ℕ)) (facts : List Fact) (target : ℕ)
+    (stops : List (Option Stop)) (sets : List SetKey)
+    → AreQuiet stops → head_lines_with filled shown facts target stops sets ≡ map (block_line filled shown facts) sets
+quiet_head filled shown facts target [] sets h = refl
+quiet_head filled shown facts target (None ∷ stops) sets h =
     let n = front_count target sets in
-    ap (λ rest. map (block_line shown facts) (take n sets) ++ rest)
-    (quiet_head shown facts (target + 1) stops (drop n sets) (All-tail IsNone None stops h))
-    ∙ sym (map-append (block_line shown facts) (take n sets) (drop n sets))
-    ∙ ap (map (block_line shown facts)) (take-append-drop n sets)
-quiet_head shown facts target (Some s ∷ stops) sets h = absurd (true≢false (All-head IsNone (Some s) stops h))
+    ap (λ rest. map (block_line filled shown facts) (take n sets) ++ rest)
+    (quiet_head filled shown facts (target + 1) stops (drop n sets) (All-tail IsNone None stops h))
+    ∙ sym (map-append (block_line filled shown facts) (take n sets) (drop n sets))
+    ∙ ap (map (block_line filled shown facts)) (take-append-drop n sets)
+quiet_head filled shown facts target (Some s ∷ stops) sets h =
+    absurd (true≢false (All-head IsNone (Some s) stops h))
 
 quiet_either_way : (extent : Extent) (names : List (List ℕ)) (charsets : List (Option Charset))
     (stops : List (Option Stop)) (facts : List Fact) → AreQuiet stops
@@ -73,7 +75,7 @@ quiet_either_way extent names charsets stops facts h =
     let rows = rows_of facts in
     ap (λ head. ended (head ++ between head rows
     ++ flat_map (row_lines extent (widths shown rows) shown charsets facts) rows))
-    (quiet_head shown facts 0 stops (sets_of facts) h)
+    (quiet_head (filled_in facts) shown facts 0 stops (sets_of facts) h)
 
 pub quiet_view : QuietLaw
 unfolding titles

@@ -1,4 +1,5 @@
 pub mod ConditionTheory
+pub mod FilledTheory
 pub mod HeadTheory
 pub mod NameTheory
 pub mod PartTheory

@@ -8,11 +8,13 @@ use Rattle.std.proofs.lemmas.Bool.{cond_both, ne_eqb}
 use Rattle.std.proofs.lemmas.Grind.{common_steps}
 use Rattle.zknow.specs.declared.fact.Fact.{Fact}
 use Rattle.zknow.specs.declared.tables.keys.RowKey.{RowKey}
+use Rattle.zknow.specs.declared.tables.keys.SetKey.{SetKey}
 use Rattle.zmarc.specs.declared.charset.Charset.{Charset}
 use Rattle.zknow_stops.specs.declared.stop.Stop.{Stop}
 use Rattle.zknow_titles.specs.declared.rows.Widths.{Widths}
 use Rattle.zknow_titles.specs.declared.wholes.Extent.{Extent}
-use Rattle.zknow_titles.specs.Heads.{head_lines}
+use Rattle.zknow_titles.specs.Blocks.{filled_in}
+use Rattle.zknow_titles.specs.Heads.{head_lines_with}
 use Rattle.zknow_titles.specs.Lines.{ended}
 use Rattle.zknow_titles.specs.Names.{shown_names}
 use Rattle.zknow_titles.specs.Parts.{gap, title_top, title_rows, TitlePartLaw, AllTitlePartLaws}
@@ -95,13 +97,15 @@ in_three : (head gap rows : List (List ℕ)) → ended (head ++ gap ++ rows) ≡
 in_three head gap rows = grind (arith, common_steps)
 
 pub title_parts : AllTitlePartLaws
-title_parts extent names charsets stops facts w =
+title_parts extent names charsets stops facts w filled =
     let shown = shown_names names in
     let rows = rows_of facts in
-    let head = head_lines shown facts 0 stops (sets_of facts) in
+    let head : (SetKey → ℕ) → List (List ℕ) = λ n. head_lines_with n shown facts 0 stops (sets_of facts) in
     let lines : Widths → List (List ℕ) = λ v. flat_map (row_lines extent v shown charsets facts) rows in
+    let own = head (filled_in facts) in
     record {
-      both = λ same. in_three head (between head rows) (lines (widths shown rows))
-          ∙ ap (λ g. (ended head ++ g) ++ ended (lines (widths shown rows))) (gap_between shown head rows)
-          ∙ ap (λ v. (ended head ++ gap v head) ++ ended (lines v)) same;
+      both = λ same told. in_three own (between own rows) (lines (widths shown rows))
+          ∙ ap (λ g. (ended own ++ g) ++ ended (lines (widths shown rows))) (gap_between shown own rows)
+          ∙ ap (λ v. (ended own ++ gap v own) ++ ended (lines v)) same
+          ∙ (λ i. (ended (head (λ b. told b i)) ++ gap w (head (λ b. told b i))) ++ ended (lines w));
     }

@@ -44,12 +44,12 @@ use Rattle.zknow_stops.proofs.Words.{words_printable}
 use Rattle.zknow_titles.specs.declared.rows.Widths.{Widths}
 use Rattle.zknow_titles.specs.declared.wholes.Extent.{Extent}
 use Rattle.zknow_titles.specs.declared.wholes.Extent.TheVariants.{Title, Whole}
-use Rattle.zknow_titles.specs.Blocks.{joined_behind, joined_by, count_part, shown_count, behind_colon, heading, failure_part, search_text, request_text, block_parts, block_line}
+use Rattle.zknow_titles.specs.Blocks.{joined_behind, joined_by, count_part, behind_colon, heading, failure_part, search_text, request_text, filled_in, block_parts, block_line}
 use Rattle.zknow_titles.specs.Columns.{char_columns, fitting, widest_cut, clipped, width, padded}
 use Rattle.zknow_titles.specs.Conditions.{condition_words}
 use Rattle.zknow_titles.specs.Diagnostics.{bib1, behind_number, condition_text, bracketed, diag_words}
 use Rattle.zknow_titles.specs.Entries.{EntryText, plain, syntax_text, counted_octets, other_entry, marc_entry, octets_entry, element_entry, content_entry, body_entry, bibliographic_entry, entry_with, opac_of, copies_of, entry, sutrs, xml, unimarc, is_marc}
-use Rattle.zknow_titles.specs.Heads.{stop_line, then_words, if_last, lines_then, stopped_lines, target_lines, front_count, head_lines}
+use Rattle.zknow_titles.specs.Heads.{stop_line, then_words, if_last, lines_then, stopped_lines_with, target_lines_with, front_count, head_lines, head_lines_with}
 use Rattle.zknow_titles.specs.Laws.{IsSafeView}
 use Rattle.zknow_titles.specs.Names.{shown_names, name_or_number, label}
 use Rattle.zknow_titles.specs.Rows.{row_name, position_width, row_head, row_entry, further_entry, below_row, copy_rows, below_rows, further_lines, several, record_lines, row_lines, widths}
@@ -276,23 +276,24 @@ request_safe d =
     (one_safe (both_safe (both_safe (both_safe (literal_safe (codes "records from ") refl) (signed_safe d.0))
     (literal_safe (codes ": ") refl)) (diag_safe d.1)))
 
-parts_safe : (facts : List Fact) (b : SetKey) → All IsSafeText (block_parts facts b)
-parts_safe facts b =
+parts_safe : (filled : ℕ) (facts : List Fact) (b : SetKey) → All IsSafeText (block_parts filled facts b)
+parts_safe filled facts b =
     let diags = diags_at b.target b.set facts in
-    let counts = counts_safe (shown_count facts b.target b.set) (counts_at b.target b.set facts) in
+    let counts = counts_safe filled (counts_at b.target b.set facts) in
     let failure = failure_safe b.set (is_failed_at b.target b.set facts) (flat_map search_text diags)
     (all_flat search_text search_safe diags) in
     let requests = all_flat request_text request_safe diags in
     All-append IsSafeText _ (flat_map request_text diags)
-    (All-append IsSafeText (count_part (shown_count facts b.target b.set) (counts_at b.target b.set facts))
+    (All-append IsSafeText (count_part filled (counts_at b.target b.set facts))
     (failure_part b.set (is_failed_at b.target b.set facts) (flat_map search_text diags)) counts failure)
     requests
 
-block_safe : (names : List (List ℕ)) (facts : List Fact) (b : SetKey)
-    → IsSafeText (block_line (shown_names names) facts b)
-block_safe names facts b =
+block_safe : (filled : SetKey → ℕ) (names : List (List ℕ)) (facts : List Fact) (b : SetKey)
+    → IsSafeText (block_line filled (shown_names names) facts b)
+block_safe filled names facts b =
     both_safe (both_safe (label_safe names b.target b.set) (literal_safe (codes ": ") refl))
-    (joined_safe (codes "; ") (block_parts facts b) (literal_safe (codes "; ") refl) (parts_safe facts b))
+    (joined_safe (codes "; ") (block_parts (filled b) facts b) (literal_safe (codes "; ") refl)
+    (parts_safe (filled b) facts b))
 
 -- ---- why connections stopped
 
@@ -313,41 +314,46 @@ last_safe : (words : List ℕ) (sets : List SetKey) → IsSafeText words → IsS
 last_safe words [] s = s
 last_safe words (b ∷ bs) s = nothing_safe
 
-blocks_safe : (names : List (List ℕ)) (facts : List Fact) (sets : List SetKey)
-    → All IsSafeText (map (block_line (shown_names names) facts) sets)
-blocks_safe names facts sets = all_map (block_line (shown_names names) facts) (block_safe names facts) sets
+blocks_safe : (filled : SetKey → ℕ) (names : List (List ℕ)) (facts : List Fact) (sets : List SetKey)
+    → All IsSafeText (map (block_line filled (shown_names names) facts) sets)
+blocks_safe filled names facts sets =
+    all_map (block_line filled (shown_names names) facts) (block_safe filled names facts) sets
 
-lines_then_safe : (names : List (List ℕ)) (facts : List Fact) (words : List ℕ) (sets : List SetKey) → IsSafeText words
-    → All IsSafeText (lines_then (shown_names names) facts words sets)
-lines_then_safe names facts words [] s = none_safe
-lines_then_safe names facts words (b ∷ bs) s =
-    All-cons IsSafeText (block_line (shown_names names) facts b ++ if_last words bs)
-    (lines_then (shown_names names) facts words bs)
-    (both_safe (block_safe names facts b) (last_safe words bs s)) (lines_then_safe names facts words bs s)
+lines_then_safe : (filled : SetKey → ℕ) (names : List (List ℕ)) (facts : List Fact) (words : List ℕ)
+    (sets : List SetKey) → IsSafeText words
+    → All IsSafeText (lines_then filled (shown_names names) facts words sets)
+lines_then_safe filled names facts words [] s = none_safe
+lines_then_safe filled names facts words (b ∷ bs) s =
+    All-cons IsSafeText (block_line filled (shown_names names) facts b ++ if_last words bs)
+    (lines_then filled (shown_names names) facts words bs)
+    (both_safe (block_safe filled names facts b) (last_safe words bs s)) (lines_then_safe filled names facts words bs s)
 
-stopped_safe : (names : List (List ℕ)) (facts : List Fact) (target : ℕ) (d : Detail) (sets : List SetKey)
-    → All IsSafeText (stopped_lines (shown_names names) facts target d sets)
-stopped_safe names facts target d sets =
+stopped_safe : (filled : SetKey → ℕ) (names : List (List ℕ)) (facts : List Fact) (target : ℕ)
+    (d : Detail) (sets : List SetKey)
+    → All IsSafeText (stopped_lines_with filled (shown_names names) facts target d sets)
+stopped_safe filled names facts target d sets =
     let shown = shown_names names in
     all_either (is_unreached d || length sets == 0) _ _
-    (All-append IsSafeText (map (block_line shown facts) sets) (stop_line shown target d ∷ [])
-    (blocks_safe names facts sets) (one_safe (stop_safe names target d)))
-    (lines_then_safe names facts (then_words d) sets (then_safe d))
+    (All-append IsSafeText (map (block_line filled shown facts) sets) (stop_line shown target d ∷ [])
+    (blocks_safe filled names facts sets) (one_safe (stop_safe names target d)))
+    (lines_then_safe filled names facts (then_words d) sets (then_safe d))
 
-target_safe : (names : List (List ℕ)) (facts : List Fact) (target : ℕ) (s : Option Stop) (sets : List SetKey)
-    → All IsSafeText (target_lines (shown_names names) facts target s sets)
-target_safe names facts target None sets = blocks_safe names facts sets
-target_safe names facts target (Some s) sets = stopped_safe names facts target s.detail sets
+target_safe : (filled : SetKey → ℕ) (names : List (List ℕ)) (facts : List Fact) (target : ℕ)
+    (s : Option Stop) (sets : List SetKey)
+    → All IsSafeText (target_lines_with filled (shown_names names) facts target s sets)
+target_safe filled names facts target None sets = blocks_safe filled names facts sets
+target_safe filled names facts target (Some s) sets = stopped_safe filled names facts target s.detail sets
 
-targets_safe : (names : List (List ℕ)) (facts : List Fact) (target : ℕ) (stops : List (Option Stop))
-    (sets : List SetKey) → All IsSafeText (head_lines (shown_names names) facts target stops sets)
-targets_safe names facts target [] sets = blocks_safe names facts sets
-targets_safe names facts target (s ∷ stops) sets =
+targets_safe : (filled : SetKey → ℕ) (names : List (List ℕ)) (facts : List Fact) (target : ℕ)
+    (stops : List (Option Stop)) (sets : List SetKey)
+    → All IsSafeText (head_lines_with filled (shown_names names) facts target stops sets)
+targets_safe filled names facts target [] sets = blocks_safe filled names facts sets
+targets_safe filled names facts target (s ∷ stops) sets =
     let count = front_count target sets in
-    All-append IsSafeText (target_lines (shown_names names) facts target s (take count sets))
-    (head_lines (shown_names names) facts (target + 1) stops (drop count sets))
-    (target_safe names facts target s (take count sets))
-    (targets_safe names facts (target + 1) stops (drop count sets))
+    All-append IsSafeText (target_lines_with filled (shown_names names) facts target s (take count sets))
+    (head_lines_with filled (shown_names names) facts (target + 1) stops (drop count sets))
+    (target_safe filled names facts target s (take count sets))
+    (targets_safe filled names facts (target + 1) stops (drop count sets))
 
 -- ---- the rows
 
@@ -426,7 +432,8 @@ title_lines_safe extent names charsets stops facts sets rows =
     let w = widths (shown_names names) rows in
     let head = head_lines (shown_names names) facts 0 stops sets in
     All-append IsSafeText _ (flat_map (row_lines extent w (shown_names names) charsets facts) rows)
-    (All-append IsSafeText head (between head rows) (targets_safe names facts 0 stops sets) (between_safe head rows))
+    (All-append IsSafeText head (between head rows)
+    (targets_safe (filled_in facts) names facts 0 stops sets) (between_safe head rows))
     (all_flat (row_lines extent w (shown_names names) charsets facts) (row_safe extent w names charsets facts) rows)
 
 safe_either_way : (extent : Extent) (names : List (List ℕ)) (charsets : List (Option Charset))

@@ -1,6 +1,8 @@
 -- The head of the view: a line for each target's set of which something is known.
-use Rattle.std.specs.Prelude.{ℕ, ℤ, pos, ◌==◌, ◌&&◌, not, Bool, if◌then◌else◌, List, [], ◌∷◌, ◌++◌, codes, length, map}
+use Rattle.std.specs.Prelude.{ℕ, ℤ, pos, ◌==◌, ◌&&◌, not, Bool, if◌then◌else◌, unwrap_or, List, [], ◌∷◌, ◌++◌, codes, length, map}
 use Rattle.std.specs.List.{flat_map, list_any, count_by}
+use Rattle.std.specs.BTreeMap.{is_at}
+use Rattle.std.specs.Map.{lookup}
 use Rattle.std.specs.Fmt.{decimal, signed_decimal}
 use Rattle.std.specs.Ordering.{int_eq}
 use Rattle.zapdu.specs.declared.productions.diagnostic.DiagRec.{DiagRec}
@@ -8,6 +10,9 @@ use Rattle.zknow.specs.declared.fact.Fact.{Fact}
 use Rattle.zknow.specs.declared.tables.keys.SetKey.{SetKey}
 use Rattle.zknow.specs.Known.{counts_at, records_at, is_failed_at, diags_at}
 use Rattle.zknow.specs.List.Listing.{positions_at}
+use Rattle.zknow.specs.Tables.Keys.{set_cmp}
+use Rattle.zknow_titles.specs.declared.filled.Filled.{Filled}
+use Rattle.zknow_titles.specs.declared.filled.Filled.TheVariants.{Known, Told}
 use Rattle.zknow_titles.specs.Diagnostics.{diag_words}
 use Rattle.zknow_titles.specs.Entries.{is_shown}
 use Rattle.zknow_titles.specs.Names.{label}
@@ -62,14 +67,27 @@ request_text d =
     if int_eq d.0 (pos 0) then []
     else (codes "records from " ++ signed_decimal d.0 ++ codes ": " ++ diag_words d.1) ∷ []
 
--- what is known of a set
-abbrev pub block_parts : List Fact → SetKey → List (List ℕ)
-block_parts facts b =
-    count_part (shown_count facts b.target b.set) (counts_at b.target b.set facts)
+-- at how many positions of a set a record is shown, by the facts
+abbrev pub filled_in : List Fact → SetKey → ℕ
+filled_in facts b = shown_count facts b.target b.set
+
+-- the same, as a table says it; 0 if it has no entry
+abbrev pub filled_at : List (SetKey × ℕ) → SetKey → ℕ
+filled_at table b = unwrap_or (lookup (is_at (set_cmp b)) table) 0
+
+-- by the facts, or by a table
+abbrev pub filled_by : Filled → List Fact → SetKey → ℕ
+filled_by Known facts b = filled_in facts b
+filled_by (Told table) facts b = filled_at table.now.entries b
+
+-- what is known of a set, if a record is shown at so many positions
+abbrev pub block_parts : ℕ → List Fact → SetKey → List (List ℕ)
+block_parts filled facts b =
+    count_part filled (counts_at b.target b.set facts)
     ++ failure_part b.set (is_failed_at b.target b.set facts) (flat_map search_text (diags_at b.target b.set facts))
     ++ flat_map request_text (diags_at b.target b.set facts)
 
 -- its line
-abbrev pub block_line : List (List ℕ) → List Fact → SetKey → List ℕ
-block_line shown facts b =
-    label shown b.target b.set ++ codes ": " ++ joined_by (codes "; ") (block_parts facts b)
+abbrev pub block_line : (SetKey → ℕ) → List (List ℕ) → List Fact → SetKey → List ℕ
+block_line filled shown facts b =
+    label shown b.target b.set ++ codes ": " ++ joined_by (codes "; ") (block_parts (filled b) facts b)

@@ -3,12 +3,13 @@ ghost use Rattle.std.specs.Prelude.{◌≡◌, ◌++◌, ◌∷◌, OnOk, IfOk, 
 ghost use Rattle.std.specs.Fmt.{signed_decimal};
 ghost use Rattle.std.specs.List.{flat_map, list_any, count_by};
 ghost use Rattle.zknow.specs.Known.{IsKnownOf, counts_at, records_at, referenced_pairs};
-ghost use Rattle.zknow_titles.specs.Blocks.{joined_behind, joined_by, is_shown_at, shown_count, count_text, count_part, behind_colon, heading, failure_part, search_text, request_text, block_parts, block_line};
+ghost use Rattle.zknow_titles.specs.Blocks.{joined_behind, joined_by, is_shown_at, shown_count, count_text, count_part, behind_colon, heading, failure_part, search_text, request_text, filled_by, block_parts, block_line};
 ghost use Rattle.zknow_titles.specs.Entries.{is_shown};
 ghost use Rattle.zknow_titles.specs.Lines.{ended_line};
 
 use crate::diagnostics::put_diag;
 use crate::entries::is_shown;
+use crate::filled::Filled;
 use crate::names::label_of;
 use std::alloc::{AllocError, Global};
 use zapdu::{DiagRec, Record};
@@ -104,7 +105,7 @@ fn has_shown(records: &[Record]) -> bool
 }
 
 /// Tells whether a record is shown at a position of a set.
-fn is_shown_at(knowledge: &Knowledge, key: &SetKey, position: &i64) -> bool
+pub(crate) fn is_shown_at(knowledge: &Knowledge, key: &SetKey, position: &i64) -> bool
     ensures { result ≡ is_shown_at knowledge.now key.now.target key.now.set position.now }
 {
     has_shown(records_of(knowledge, key.target, key.set, position))
@@ -133,7 +134,7 @@ pub fn count_shown(knowledge: &Knowledge, key: &SetKey) -> Result<usize, AllocEr
 
 /// Returns the counts in words, and at how many positions a record is shown, as `24 or 25 found, 2 shown`. Several
 /// records at one position count once.
-fn show_counts(alloc: Global, shown: usize, counts: &[i64]) -> Result<String, AllocError>
+fn show_counts(alloc: Global, shown: u64, counts: &[i64]) -> Result<String, AllocError>
     ensures { IfOk result (λ text. string_bytes text ≡ count_text shown counts.now) }
 {
     let mut text = String::new(alloc);
@@ -149,7 +150,7 @@ fn show_counts(alloc: Global, shown: usize, counts: &[i64]) -> Result<String, Al
 /// Appends the counts in words, where any is known.
 fn put_counts(
     alloc: Global,
-    shown: usize,
+    shown: u64,
     counts: &[i64],
     parts: &mut Vec<String>,
 ) -> Result<(), AllocError>
@@ -277,12 +278,16 @@ pub fn put_requests(
     Ok(())
 }
 
-/// Returns what is known of a set, in words.
-fn find_parts(alloc: Global, knowledge: &Knowledge, key: &SetKey) -> Result<Vec<String>, AllocError>
-    ensures { IfOk result (λ parts. map string_bytes parts.items ≡ block_parts knowledge.now key.now) }
+/// Returns what is known of a set, in words, if a record is shown at so many positions.
+fn find_parts(
+    alloc: Global,
+    shown: u64,
+    knowledge: &Knowledge,
+    key: &SetKey,
+) -> Result<Vec<String>, AllocError>
+    ensures { IfOk result (λ parts. map string_bytes parts.items ≡ block_parts shown knowledge.now key.now) }
 {
     let mut parts = Vec::new(alloc);
-    let shown = count_shown(knowledge, key)?;
     put_counts(alloc, shown, counts_of(knowledge, key), &mut parts)?;
     let diags = knowledge.diags(key.target, key.set)?;
     let texts = show_search(alloc, &diags)?;
@@ -295,15 +300,18 @@ fn find_parts(alloc: Global, knowledge: &Knowledge, key: &SetKey) -> Result<Vec<
 /// Returns the line of a set.
 pub(crate) fn show_block(
     alloc: Global,
+    filled: Filled<'_>,
     shown: &[String],
     knowledge: &Knowledge,
     key: &SetKey,
 ) -> Result<String, AllocError>
-    ensures { IfOk result (λ line. string_bytes line ≡ block_line (map string_bytes shown.now) knowledge.now key.now) }
+    ensures { IfOk result (λ line. string_bytes line
+        ≡ block_line (filled_by filled.entry knowledge.now) (map string_bytes shown.now) knowledge.now key.now) }
 {
+    let count = filled.count(knowledge, key)?;
     let mut line = label_of(alloc, shown, key.target, key.set)?;
     line.push_str(": ")?;
-    let parts = find_parts(alloc, knowledge, key)?;
+    let parts = find_parts(alloc, count, knowledge, key)?;
     put_joined("; ", &parts, &mut line)?;
     Ok(line)
 }
@@ -311,15 +319,17 @@ pub(crate) fn show_block(
 /// Appends the line of a set.
 pub(crate) fn put_block(
     alloc: Global,
+    filled: Filled<'_>,
     shown: &[String],
     knowledge: &Knowledge,
     key: &SetKey,
     out: &mut Vec<u8>,
 ) -> Result<(), AllocError>
     ensures { OnOk result (out.new.items
-        ≡ out.old.items ++ ended_line (block_line (map string_bytes shown.now) knowledge.now key.now)) }
+        ≡ out.old.items ++ ended_line (block_line (filled_by filled.entry knowledge.now) (map string_bytes shown.now)
+        knowledge.now key.now)) }
 {
-    let line = show_block(alloc, shown, knowledge, key)?;
+    let line = show_block(alloc, filled, shown, knowledge, key)?;
     out.extend_from_slice(line.as_bytes())?;
     out.extend_from_slice(b"\n")
 }

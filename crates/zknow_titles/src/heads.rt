@@ -1,10 +1,11 @@
 //! The head of the view: the lines of each target's sets, and why its connection stopped.
 ghost use Rattle.std.specs.Prelude.{◌≡◌, ◌≤◌, ◌++◌, OnOk, IfOk, length, map, slice_get, string_bytes};
-ghost use Rattle.zknow_titles.specs.Blocks.{block_line};
-ghost use Rattle.zknow_titles.specs.Heads.{stop_words, stop_line, then_words, if_last, lines_then, stopped_lines, target_lines, front_count, head_lines};
+ghost use Rattle.zknow_titles.specs.Blocks.{block_line, filled_by};
+ghost use Rattle.zknow_titles.specs.Heads.{stop_words, stop_line, then_words, if_last, lines_then, stopped_lines_with, target_lines_with, front_count, head_lines_with};
 ghost use Rattle.zknow_titles.specs.Lines.{ended_line, ended};
 
 use crate::blocks::{put_block, show_block};
+use crate::filled::Filled;
 use crate::names::name_of;
 use std::alloc::{AllocError, Global};
 use zknow::{Knowledge, SetKey};
@@ -13,16 +14,18 @@ use zknow_stops::{Detail, Stop};
 /// Appends the line of each set.
 fn put_blocks(
     alloc: Global,
+    filled: Filled<'_>,
     shown: &[String],
     knowledge: &Knowledge,
     sets: &[SetKey],
     out: &mut Vec<u8>,
 ) -> Result<(), AllocError>
     ensures { OnOk result (out.new.items
-        ≡ out.old.items ++ ended (map (block_line (map string_bytes shown.now) knowledge.now) sets.now)) }
+        ≡ out.old.items ++ ended (map (block_line (filled_by filled.entry knowledge.now) (map string_bytes shown.now)
+        knowledge.now) sets.now)) }
 {
     for key in sets {
-        put_block(alloc, shown, knowledge, key, out)?;
+        put_block(alloc, filled, shown, knowledge, key, out)?;
     }
     Ok(())
 }
@@ -83,6 +86,7 @@ fn if_last<'a>(words: &'a str, left: &[SetKey]) -> &'a str
 /// Appends the line of a set with words behind it, if no set is left.
 fn put_block_then(
     alloc: Global,
+    filled: Filled<'_>,
     shown: &[String],
     knowledge: &Knowledge,
     words: &str,
@@ -91,9 +95,10 @@ fn put_block_then(
     out: &mut Vec<u8>,
 ) -> Result<(), AllocError>
     ensures { OnOk result (out.new.items ≡ out.old.items
-        ++ ended_line (block_line (map string_bytes shown.now) knowledge.now key.now ++ if_last words.now left.now)) }
+        ++ ended_line (block_line (filled_by filled.entry knowledge.now) (map string_bytes shown.now) knowledge.now
+        key.now ++ if_last words.now left.now)) }
 {
-    let line = show_block(alloc, shown, knowledge, key)?;
+    let line = show_block(alloc, filled, shown, knowledge, key)?;
     out.extend_from_slice(line.as_bytes())?;
     out.extend_from_slice(if_last(words, left).as_bytes())?;
     out.extend_from_slice(b"\n")
@@ -102,6 +107,7 @@ fn put_block_then(
 /// Appends the line of each set, with words behind the last.
 fn put_blocks_then(
     alloc: Global,
+    filled: Filled<'_>,
     shown: &[String],
     knowledge: &Knowledge,
     words: &str,
@@ -109,11 +115,12 @@ fn put_blocks_then(
     out: &mut Vec<u8>,
 ) -> Result<(), AllocError>
     ensures { OnOk result (out.new.items
-        ≡ out.old.items ++ ended (lines_then (map string_bytes shown.now) knowledge.now words.now sets.now)) }
+        ≡ out.old.items ++ ended (lines_then (filled_by filled.entry knowledge.now) (map string_bytes shown.now)
+        knowledge.now words.now sets.now)) }
 {
     let mut left = sets;
     while let [key, others @ ..] = left {
-        put_block_then(alloc, shown, knowledge, words, key, others, out)?;
+        put_block_then(alloc, filled, shown, knowledge, words, key, others, out)?;
         left = others;
     }
     Ok(())
@@ -122,6 +129,7 @@ fn put_blocks_then(
 /// Appends the lines of a target that stopped.
 fn put_stopped(
     alloc: Global,
+    filled: Filled<'_>,
     shown: &[String],
     knowledge: &Knowledge,
     target: usize,
@@ -130,19 +138,21 @@ fn put_stopped(
     out: &mut Vec<u8>,
 ) -> Result<(), AllocError>
     ensures { OnOk result (out.new.items ≡ out.old.items
-        ++ ended (stopped_lines (map string_bytes shown.now) knowledge.now target detail sets.now)) }
+        ++ ended (stopped_lines_with (filled_by filled.entry knowledge.now) (map string_bytes shown.now) knowledge.now
+        target detail sets.now)) }
 {
     if detail.is_unreached() || sets.is_empty() {
-        put_blocks(alloc, shown, knowledge, sets, out)?;
+        put_blocks(alloc, filled, shown, knowledge, sets, out)?;
         return put_stop(alloc, shown, target, detail, out);
     }
     let words = show_then(alloc, detail)?;
-    put_blocks_then(alloc, shown, knowledge, words.as_str(), sets, out)
+    put_blocks_then(alloc, filled, shown, knowledge, words.as_str(), sets, out)
 }
 
 /// Appends the lines of a target.
 fn put_target(
     alloc: Global,
+    filled: Filled<'_>,
     shown: &[String],
     knowledge: &Knowledge,
     target: usize,
@@ -151,11 +161,21 @@ fn put_target(
     out: &mut Vec<u8>,
 ) -> Result<(), AllocError>
     ensures { OnOk result (out.new.items ≡ out.old.items
-        ++ ended (target_lines (map string_bytes shown.now) knowledge.now target stop.now sets.now)) }
+        ++ ended (target_lines_with (filled_by filled.entry knowledge.now) (map string_bytes shown.now) knowledge.now
+        target stop.now sets.now)) }
 {
     match stop {
-        None => put_blocks(alloc, shown, knowledge, sets, out),
-        Some(stop) => put_stopped(alloc, shown, knowledge, target, stop.detail, sets, out),
+        None => put_blocks(alloc, filled, shown, knowledge, sets, out),
+        Some(stop) => put_stopped(
+            alloc,
+            filled,
+            shown,
+            knowledge,
+            target,
+            stop.detail,
+            sets,
+            out,
+        ),
     }
 }
 
@@ -177,21 +197,25 @@ fn count_front(target: usize, sets: &[SetKey]) -> usize
 /// Returns the lines of all targets.
 pub(crate) fn show_head(
     alloc: Global,
+    filled: Filled<'_>,
     shown: &[String],
     knowledge: &Knowledge,
     stops: &[Option<Stop>],
     sets: &[SetKey],
 ) -> Result<Vec<u8>, AllocError>
     ensures { IfOk result (λ head. head.items
-        ≡ ended (head_lines (map string_bytes shown.now) knowledge.now 0 stops.now sets.now)) }
+        ≡ ended (head_lines_with (filled_by filled.entry knowledge.now) (map string_bytes shown.now) knowledge.now
+        0 stops.now sets.now)) }
 {
     let mut head = Vec::new(alloc);
     let mut left = sets;
     for (target, stop) in stops.iter().enumerate() {
         let (own, others) = left.split_at(count_front(target, left));
-        put_target(alloc, shown, knowledge, target, stop, own, &mut head)?;
+        put_target(
+            alloc, filled, shown, knowledge, target, stop, own, &mut head,
+        )?;
         left = others;
     }
-    put_blocks(alloc, shown, knowledge, left, &mut head)?;
+    put_blocks(alloc, filled, shown, knowledge, left, &mut head)?;
     Ok(head)
 }

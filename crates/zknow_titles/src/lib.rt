@@ -9,6 +9,7 @@ mod columns;
 mod conditions;
 mod diagnostics;
 mod entries;
+mod filled;
 mod heads;
 pub mod laws;
 mod names;
@@ -23,6 +24,7 @@ pub use blocks::{
     show_search,
 };
 pub use entries::{Entry, entry_with, opac_of};
+pub use filled::{Filled, count_filled};
 pub use heads::show_stop;
 pub use names::{label_of, name_of, show_names};
 pub use parts::{print_title_head, print_title_rows};

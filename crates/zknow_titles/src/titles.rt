@@ -6,6 +6,7 @@ ghost use Rattle.zknow_titles.specs.Lines.{ended};
 ghost use Rattle.zknow_titles.specs.Rows.{row_lines};
 ghost use Rattle.zknow_titles.specs.Titles.{between, title_lines, view, titles, whole_records};
 
+use crate::filled::Filled;
 use crate::heads::show_head;
 use crate::names::show_names;
 use crate::rows::{Widths, find_widths, put_row};
@@ -61,7 +62,7 @@ fn put_lines(
         ≡ out.old.items ++ ended (title_lines extent (map string_bytes shown.now) charsets.now stops.now knowledge.now
         sets.now rows.now)) }
 {
-    let head = show_head(alloc, shown, knowledge, stops, sets)?;
+    let head = show_head(alloc, Filled::Known, shown, knowledge, stops, sets)?;
     out.extend_from_slice(&head)?;
     put_between(&head, rows, out)?;
     let w = find_widths(alloc, shown, rows)?;

@@ -18,10 +18,15 @@ pub(crate) const JOIN: Form = Form {
     example: "A and each B are saved files, of the same catalogues in the same order; one is
 enough. Prints one list of all that any search brought. Where they brought
 different records for one position of a result set, all of these are shown there
-as a conflict. --save also makes one saved file of all of them. With --quiet
-that is all that is done: the files may then be larger than memory, the result
-may be joined with others in any order and grouping, and status 0 says that the
-file was made, whatever the searches came to.
+as a conflict. Regular files may be larger than memory, except with --save or
+--html: they are read again while the list is printed. If one of them changes
+meanwhile, or memory ends, a part of the list is printed, and the status is 3 or
+4.
+
+--save also makes one saved file of all of them. With --quiet that is all that
+is done: the files may be larger than memory then too, the result may be joined
+with others in any order and grouping, and status 0 says that the file was made,
+whatever the searches came to.
 
 Example, the searches of two days:
   zmeta join monday.saved tuesday.saved

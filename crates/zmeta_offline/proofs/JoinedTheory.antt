@@ -1,136 +1,45 @@
--- The facts of saved files are printed in two passes.
-use Rattle.std.proofs.Common.{◌≡◌, ◌∙◌, ◌⊎◌, ◌↔◌, inl, inr, ⊎_elim, refl, sym, ap, subst, ℕ, zero, suc, Bool, true, false, List, [], ◌∷◌, ◌++◌, append_assoc, append-nil, Option, Some, None, IfSome, Result, Ok, Err}
+-- The facts of saved files are printed in several passes.
+use Rattle.std.proofs.Common.{◌≡◌, ◌∙◌, ◌⊎◌, ◌↔◌, inl, inr, ⊎_elim, refl, sym, ap, subst, ℕ, zero, suc, Bool, true, false, List, [], ◌∷◌, ◌++◌, Option, Some, IfSome, Result, Ok, Err}
 use Rattle.std.specs.Borrow.{Bor}
-use Rattle.std.specs.Option.{IsSome}
 use Rattle.std.specs.Prelude.{Contains, Vec, slice_get}
-use Rattle.std.specs.Io.KnownBytes.{Keeps, Appends}
 use Rattle.zknow.specs.declared.fact.Fact.{Fact}
-use Rattle.zknow.specs.Facts.{AreFacts}
 use Rattle.zknow.specs.Known.{HasFailure}
-use Rattle.zknow.specs.Saved.Saved.{IsWithinLimits}
-use Rattle.zknow.specs.Saved.SavedFacts.{saved_fact}
-use Rattle.zknow.specs.Tables.DistinctLaws.{none_in_nil, each_in}
-use Rattle.zknow_forms.specs.Forms.{form_text, AllFormLaws}
+use Rattle.zknow.specs.Tables.DistinctLaws.{in_head}
+use Rattle.zknow_forms.specs.Forms.{form_text, head_text, whole_text, IsAsTold, AllFormLaws}
 use Rattle.zknow_forms.specs.declared.form.Form.{Form}
 use Rattle.zknow_forms.specs.declared.tally.Tally.{Tally}
-use Rattle.zknow_runs.proofs.UnionTheory.{Joined, union_of, kept_of, DoFit, fits_agree, no_facts}
-use Rattle.zknow_runs.specs.Rows.{Sources, AreGiven}
-use Rattle.zknow_runs.specs.declared.rows.Chosen.{Chosen}
+use Rattle.zknow_runs.specs.RowLaws.{AreRowsFrontOf}
+use Rattle.zknow_runs.specs.Rows.{Sources}
 use Rattle.zknow_runs.specs.declared.rows.Taking.{Taking}
 use Rattle.zknow_runs.specs.declared.run.Run.{Run}
+use Rattle.zknow_titles.specs.Parts.{AllTitlePartLaws}
 use Rattle.zmeta_args.specs.declared.arguments.View.{View}
-use Rattle.zmeta_args.specs.declared.arguments.View.TheVariants.{Text, Hex, Titles, Fields, Json, Html}
-use Rattle.zmeta_devices.specs.Devices.{Device, IsUnchanged, HasGained, HasStopped, PutFailure}
+use Rattle.zmeta_devices.specs.Devices.{Device, HasGained, HasStopped, PutFailure}
 use Rattle.zmeta_devices.specs.declared.fault.Fault.{Fault}
 use Rattle.zmeta_devices.specs.declared.fault.Fault.TheVariants.{Read, Write, NoCatalogue, Memory}
 use Rattle.zmeta_devices.specs.declared.fault.Status.{Status}
-use Rattle.zmeta_offline.specs.Join.{AreJoined, IsKnownStatus, IsListOf, PutListResult}
-use Rattle.zmeta_offline.specs.Joined.{parted, form_of, IsListBrokenOff, StreamedJoinResult}
-use Rattle.zmeta_offline.specs.Marked.{AreSavedEach, AreMarked, ScanFilesResult}
-use Rattle.zmeta_offline.specs.Rows.{IsOfRuns, IsWritten, IsCutOff, IsStopped, WriteRowsResult}
+use Rattle.zmeta_offline.specs.Join.{AreJoined, IsRefusedAmong, IsKnownStatus, IsListOf, PutListResult}
+use Rattle.zmeta_offline.specs.Joined.{parted, IsFormOf, IsMeasuredForm, IsMismeasured, IsListOrSo, IsListBrokenOff, StreamedJoinResult}
+use Rattle.zmeta_offline.specs.Marked.{AreMarked, ScanFilesResult}
+use Rattle.zmeta_offline.specs.Rows.{AreGivenOf, IsReadFaultAmong, IsWritten, IsCutOff, IsStopped, IsOfRuns, WriteRowsResult}
 use Rattle.zmeta_offline.specs.Streamed.{IsStatusOf}
 use Rattle.zmeta_offline.specs.Views.{printed}
 use Rattle.zmeta_offline.specs.declared.joined.PartedView.{PartedView}
 use Rattle.zmeta_offline.specs.declared.scanned.Marked.{Marked}
 use Rattle.zmeta_offline.specs.declared.scanned.Noting.TheVariants.{Others}
+use Rattle.zmeta_offline.proofs.FormJoined.{DoesFit, IsInColumns, shape_printed, told_fit, all_fit, shape_fits}
+use Rattle.zmeta_offline.proofs.GivenJoined.{others_are}
 use Rattle.zmeta_offline.proofs.Joining.{kept, join_refused}
-use Rattle.zmeta_offline.proofs.MarkedSources.{is_record_taken, AmongKnown, known_list, sources, sources_taken}
-use Rattle.zmeta_offline.proofs.MarkedTheory.{marked_sources, marked_runs, marked_taken, IsMarkedGiven, given_by, has_failed}
+use Rattle.zmeta_offline.proofs.MarkedSources.{has_unknown}
+use Rattle.zmeta_offline.proofs.MarkedTheory.{marked_sources, of_marked_runs, IsMarkedGiven, given_by, has_failed}
 use Rattle.zmeta_offline.proofs.Streaming.{gained_more, gained_stopped, stopped_whole, refused_among}
 
--- ---- the records of known files that are taken, as facts
-
-module _ (octets : List ℕ → Option (List ℕ)) (names : List (List ℕ)) (c : Chosen) where
-  abbrev FactsOf : (Fact → Type 0) → Type 0
-  FactsOf among = (given : List Fact) × AreFacts given × DoFit given
-      × ((f : Fact) → Contains given f ↔ (among f × (is_record_taken c f ≡ true)))
-
-  known_by : (o : Option (List ℕ)) (facts : List Fact) → AreFacts facts → DoFit facts
-      → FactsOf (λ f. IsSome o × Contains facts f)
-  known_by None facts good fits = (
-    [],
-    no_facts,
-    λ f h. absurd (none_in_nil f h),
-    λ f. (λ h. absurd (none_in_nil f h), λ h. let some : IsSome {T = List ℕ} None = h.0.0 in absurd cc),
-  )
-  known_by (Some file) facts good fits =
-      let taken = kept_of (is_record_taken c) facts good in (
-        taken.0,
-        taken.1,
-        λ f h. fits f ((taken.2 f).0 h).0,
-        λ f. (
-          λ h. let old = (taken.2 f).0 h in ((refl, old.0), old.1),
-          λ h. (taken.2 f).1 (h.0.1, h.1),
-        ),
-      )
-
-  known_facts : (paths : List (List ℕ)) (theirs : List (List Fact)) → AreSavedEach octets names paths theirs
-      → FactsOf (AmongKnown octets names paths theirs)
-  known_facts [] [] saved = (
-    [],
-    no_facts,
-    λ f h. absurd (none_in_nil f h),
-    λ f. (λ h. absurd (none_in_nil f h), λ h. absurd h.0),
-  )
-  known_facts [] (facts ∷ theirs) saved = absurd saved
-  known_facts (path ∷ paths) [] saved = absurd saved
-  known_facts (path ∷ paths) (facts ∷ theirs) saved =
-      let one : FactsOf (λ f. IsSome (octets path) × Contains facts f) =
-      known_by (octets path) facts saved.1 (λ f h. each_in (IsWithinLimits saved_fact) facts saved.2 f h) in
-      let more : FactsOf (AmongKnown octets names paths theirs) = known_facts paths theirs saved.3 in
-      let both : Joined one.0 more.0 =
-      union_of one.0 more.0 one.1 more.1 (fits_agree one.0 more.0 one.2 more.2) in (
-        both.0,
-        both.1,
-        λ f h. ⊎_elim (one.2 f) (more.2 f) ((both.2 f).0 h),
-        λ f. (
-          λ h. ⊎_elim (λ here. let old = (one.3 f).0 here in (inl old.0, old.1))
-              (λ there. let old = (more.3 f).0 there in (inr old.0, old.1)) ((both.2 f).0 h),
-          λ h. ⊎_elim (λ here. (both.2 f).1 (inl ((one.3 f).1 (here, h.1))))
-              (λ there. (both.2 f).1 (inr ((more.3 f).1 (there, h.1)))) h.0,
-        ),
-      )
-
-  -- they may be given
-  module _ (paths : List (List ℕ)) (theirs : List (List Fact)) (saved : AreSavedEach octets names paths theirs) where
-    abbrev of_files : Sources
-    of_files = sources octets names paths theirs saved c
-
-    pub known_given : (given : List Fact)
-        × AreGiven of_files.files (Contains of_files.known) (of_files.unknown ≡ true) c given
-    known_given =
-        let all = known_facts paths theirs saved in
-        let list = known_list octets names c paths theirs saved in (
-          all.0,
-          record {
-            lawful = all.1;
-            complete = λ f h. (all.3 f).1 ((list.1 f).0 h);
-            sound =
-                λ f h.
-                let known = (list.1 f).1 ((all.3 f).0 h) in
-                (sources_taken octets names paths theirs saved c f known, inl known);
-          },
-        )
-
--- ---- the text
-
--- the text of the form is what is printed
-form_printed : (view : View) (names : List (List ℕ)) (facts : List Fact)
-    → IfSome (parted view) (λ shape. form_text (form_of names shape) facts ≡ printed names view [] [] facts)
-form_printed Text names facts = refl
-form_printed Hex names facts = refl
-form_printed Titles names facts = tt
-form_printed Fields names facts = tt
-form_printed Json names facts = refl
-form_printed (Html heading) names facts = tt
-
--- ---- the command
+-- ---- a file is refused in the first pass
 
 none_at : (at : ℕ) (name : List ℕ) → slice_get [] at ≡ Some name → ⊥
 none_at zero name stands = cc
 none_at (suc at) name stands = cc
 
--- a file is refused in the first pass
 module _ (view : View) (octets : List ℕ → Option (List ℕ)) (paths : List (List ℕ)) (old : Device) where
   not_marked : (f : Fault) → ScanFilesResult octets paths [] Others (Err f)
       → StreamedJoinResult view octets paths old old (Err f)
@@ -147,188 +56,260 @@ module _ (view : View) (octets : List ℕ → Option (List ℕ)) (paths : List (
       → StreamedJoinResult view octets paths old old r
   no_memory f r is of = rw (is, of) (inl (kept old))
 
-keeps_none : (a b : Option (List ℕ)) → Keeps a b → Appends a b []
-keeps_none None b kept = tt
-keeps_none (Some x) None kept = absurd kept
-keeps_none (Some x) (Some y) kept = kept ∙ sym (append-nil x)
+-- ---- behind the first pass
 
--- what is unchanged gained nothing
-gained_none : (old new : Device) → IsUnchanged old new → HasGained old new []
-gained_none old new same = record {
-  written = keeps_none old.known new.known same.kept;
-  path = same.path;
-  sound = same.sound;
-  explains = same.explains;
-}
-
-module _ (view : View) (shape : PartedView) (is_shape : parted view ≡ Some shape)
-    (octets : List ℕ → Option (List ℕ)) (path : List ℕ) (others : List (List ℕ)) (old : Device) (m : Marked)
-    (marked : AreMarked octets (path ∷ others) [] Others m) (law : AllFormLaws) where
-  abbrev form : Form
-  form = form_of m.names shape
-
-  abbrev taken : Taking
-  taken = record { chosen = m.chosen; form = form }
+module _ (view : View) (octets : List ℕ → Option (List ℕ)) (path : List ℕ) (others : List (List ℕ)) (old : Device)
+    (m : Marked) (marked : AreMarked octets (path ∷ others) [] Others m) where
+  abbrev its : Sources
+  its = marked_sources octets path others [] Others m marked
 
   abbrev result_of : Device → Result Status Fault → Type 0
   result_of new result = StreamedJoinResult view octets (path ∷ others) old new result
 
-  abbrev its : Sources
-  its = marked_sources octets path others [] Others m marked
+  -- a file could not be read again
+  refused : (failed : Bor (List ℕ)) → Contains (path ∷ others) failed.now
+      → IsRefusedAmong octets (path ∷ others) (Read failed)
+  refused failed h =
+      refused_among octets m.names (path ∷ others) marked.theirs marked.saved failed.now h (Read failed) refl
 
-  abbrev IsGiven : List Fact → Type 0
-  IsGiven given = AreGiven its.files (Contains its.known) (its.unknown ≡ true) m.chosen given
+  -- the records were not read from which the form is made
+  no_form : (f : Fault) → IsReadFaultAmong (path ∷ others) f → result_of old (Err f)
+  no_form (Read failed) h = inl (refused failed h, kept old)
+  no_form Memory h = inl (kept old)
+  no_form f h = absurd h
 
-  -- the text of facts that are no records
-  abbrev pub head : List ℕ
-  head = form_text form m.others
+  pub form_refused : (paths : List (List ℕ)) → paths ≡ path ∷ others → (g f : Fault) (r : Result Status Fault)
+      → r ≡ Err f → f ≡ g → IsReadFaultAmong paths g → result_of old r
+  form_refused paths same g f r is of h =
+      rw (is, of) (no_form g (subst (λ (z : List (List ℕ)). IsReadFaultAmong z g) same h))
 
-  -- what is so of all sources is so of these
-  of_runs : (P : Sources → Type 0) → IsOfRuns octets (path ∷ others) m.runs.items taken P → P its
-  of_runs P h =
-      h its (λ number. refl) (marked_runs octets path others [] Others m marked)
-      (marked_taken octets path others [] Others m marked)
+  -- what is taken, in the form of the view
+  pub record IsReady (shape : PartedView) (t : Taking) : Type 0 where
+    pub shape_is : parted view ≡ Some shape
+    pub chosen : t.chosen.now ≡ m.chosen
+    pub form : IsFormOf m.names shape t.form.now
+    pub measured : IsMeasuredForm m.chosen t.form.now its
+    pub head : t.head.items ≡ head_text t.form.now m.others
 
-  given_of : (given : List Fact) → IsGiven given → IsMarkedGiven octets path others [] Others m marked given
-  given_of given are = given_by octets path others [] Others m marked given are
+  pub measured_by : (paths : List (List ℕ)) (runs : List Run) → paths ≡ path ∷ others → runs ≡ m.runs.items
+      → (form : Form) → IsOfRuns octets paths runs m.chosen (IsMeasuredForm m.chosen form)
+      → IsMeasuredForm m.chosen form its
+  measured_by paths runs same_paths same_runs form h =
+      of_marked_runs octets path others [] Others m marked paths runs m.chosen same_paths same_runs refl
+      (IsMeasuredForm m.chosen form) h
 
-  -- behind that text, the text of records that may be given makes a list of all
-  listed : (given : List Fact) (are : IsGiven given)
-      → IsListOf octets view (path ∷ others) (given_of given are).facts (head ++ form_text form given)
-  listed given are =
-      let g = given_of given are in (
-        m.names,
-        subst (λ (l : List Fact). AreJoined octets m.names (path ∷ others) l) (sym (g.whole refl)) g.joined,
-        sym ((law.parts form m.others given g.facts).text (g.parts m.others (marked.others tt)))
-            ∙ subst (λ (o : Option PartedView). IfSome o (λ s. form_text (form_of m.names s) g.facts ≡ printed m.names view [] [] g.facts))
-            is_shape (form_printed view m.names g.facts),
+  pub head_by : (form : Form) (start out : List ℕ) → start ≡ [] → out ≡ start ++ head_text form m.others
+      → out ≡ head_text form m.others
+  head_by form start out none put = put ∙ ap (λ z. z ++ head_text form m.others) none
+
+  module _ (law : AllFormLaws) (title_law : AllTitlePartLaws) (shape : PartedView) (t : Taking)
+      (is_ready : IsReady shape t) where
+    abbrev form : Form
+    form = t.form.now
+
+    abbrev IsGiven : List Fact → Type 0
+    IsGiven given = AreGivenOf its m.chosen given
+
+    given_of : (given : List Fact) → IsGiven given → IsMarkedGiven octets path others [] Others m marked given
+    given_of given are = given_by octets path others [] Others m marked given are
+
+    -- the text that is written
+    abbrev text_of : List Fact → List ℕ
+    text_of given = t.head.items ++ form_text form given
+
+    joined_of : (given : List Fact) (are : IsGiven given)
+        → AreJoined octets m.names (path ∷ others) (given_of given are).facts
+    joined_of given are =
+        let g = given_of given are in
+        subst (λ (l : List Fact). AreJoined octets m.names (path ∷ others) l) (sym (g.whole refl)) g.joined
+
+    -- it is the whole text of the facts of all files
+    whole_of : (given : List Fact) (are : IsGiven given)
+        → text_of given ≡ whole_text form (given_of given are).facts
+    whole_of given are =
+        let g = given_of given are in
+        ap (λ z. z ++ form_text form given) is_ready.head
+        ∙ sym ((law.parts form m.others given g.facts).whole (g.parts m.others (marked.others tt))
+        (others_are m.chosen marked.theirs m.others (marked.others tt)))
+
+    -- it is the list
+    listed : (given : List Fact) (are : IsGiven given) → DoesFit form given
+        → IsListOf octets view (path ∷ others) (given_of given are).facts (text_of given)
+    listed given are fit =
+        let g = given_of given are in
+        let fits : DoesFit form g.facts =
+        all_fit law form m.others given g.facts (g.parts m.others (marked.others tt))
+        (others_are m.chosen marked.theirs m.others (marked.others tt)) fit in (
+          m.names,
+          joined_of given are,
+          whole_of given are
+              ∙ subst (λ (o : Option PartedView). IfSome o (λ s. (form : Form) → IsFormOf m.names s form
+              → DoesFit form g.facts → whole_text form g.facts ≡ printed m.names view [] [] g.facts))
+              is_ready.shape_is (shape_printed m.names g.facts title_law view) form is_ready.form fits,
+        )
+
+    -- or it may have other columns
+    mismeasured : (given : List Fact) (are : IsGiven given) → its.unknown ≡ true
+        → IsInColumns m.names (given_of given are).facts shape form
+        → IsMismeasured view octets (path ∷ others) (given_of given are).facts (text_of given)
+    mismeasured given are unknown columns = record {
+      unknown = (has_unknown octets m.names (path ∷ others)).1.0 unknown;
+      extent = columns.extent;
+      shape = is_ready.shape_is ∙ ap Some columns.is;
+      names = m.names;
+      joined = joined_of given are;
+      w = columns.w;
+      filled = columns.filled;
+      is = whole_of given are ∙ columns.text;
+    }
+
+    list_or_so : (given : List Fact) (are : IsGiven given)
+        → IsListOrSo view octets (path ∷ others) (given_of given are).facts (text_of given)
+    list_or_so given are = ⊎_elim (λ fit. inl (listed given are fit))
+        (λ h. inr (mismeasured given are h.0 (h.1 (given_of given are).facts)))
+        (shape_fits its m.chosen m.names given are shape form is_ready.form is_ready.measured)
+
+    -- ---- a part is written
+
+    -- of the text of facts that may be given
+    record IsPartOf (text : List ℕ) : Type 0 where
+      given : List Fact
+      rest : List ℕ
+      are : IsGiven given
+      cut : text_of given ≡ text ++ rest
+
+    given_as : (given : List Fact) → AreGivenOf its t.chosen.now given → IsGiven given
+    given_as given are = subst (λ c. AreGivenOf its c given) is_ready.chosen are
+
+    part_of : (text : List ℕ) → AreRowsFrontOf its t text → IsPartOf text
+    part_of text front = record {
+      given = front.given;
+      rest = front.rest;
+      are = given_as front.given front.are;
+      cut = sym front.octets;
+    }
+
+    broken_at : (new : Device) (text : List ℕ) → IsPartOf text → HasGained old new text
+        → IsListBrokenOff view octets (path ∷ others) old new
+    broken_at new text part gained = record {
+      facts = (given_of part.given part.are).facts;
+      text = text_of part.given;
+      list = list_or_so part.given part.are;
+      output = record { front = text; rest = part.rest; cut = part.cut; gained = gained };
+    }
+
+    -- the stream failed there
+    stopped_at : (new : Device) (text : List ℕ) → IsPartOf text → (to : Bor (List ℕ)) → to.now ≡ old.path
+        → HasStopped old new text → result_of new (Err (Write to))
+    stopped_at new text part to same stopped =
+        let facts : List Fact = (given_of part.given part.are).facts in
+        let failure : PutFailure old new (text_of part.given) (Write to) =
+        (same, stopped_whole old new text part.rest (text_of part.given) part.cut stopped) in
+        ⊎_elim (λ list. inl (facts, text_of part.given, list, failure))
+        (λ other. inr (facts, text_of part.given, other, failure)) (list_or_so part.given part.are)
+
+    module _ (paths : List (List ℕ)) (runs : List Run) (same_paths : paths ≡ path ∷ others)
+        (same_runs : runs ≡ m.runs.items) where
+      of_runs : (P : Sources → Type 0) → IsOfRuns octets paths runs t.chosen.now P → P its
+      of_runs P h =
+          of_marked_runs octets path others [] Others m marked paths runs t.chosen.now same_paths same_runs
+          is_ready.chosen P h
+
+      cut_at : (new : Device) → IsOfRuns octets paths runs t.chosen.now (IsCutOff t old new)
+          → IsListBrokenOff view octets (path ∷ others) old new
+      cut_at new h =
+          let cut : IsCutOff t old new its = of_runs (IsCutOff t old new) h in
+          broken_at new cut.text (part_of cut.text cut.is) cut.gained
+
+      not_written : (A : Type 0) (new : Device) (f : Fault)
+          → WriteRowsResult octets paths runs {A = A} t old new (Err f) → result_of new (Err f)
+      not_written A new (Read failed) h = inr (
+        refused failed (subst (λ (z : List (List ℕ)). Contains z failed.now) same_paths h.0),
+        cut_at new h.1,
       )
+      not_written A new (Write failed) h =
+          let s : IsStopped t old new its = of_runs (IsStopped t old new) h.1 in
+          stopped_at new s.text (part_of s.text s.is) failed h.0 s.stopped
+      not_written A new Memory (inl same) = inl same
+      not_written A new Memory (inr h) = inr (cut_at new h)
+      not_written A new f h = absurd h
 
-  some_given : (given : List Fact) × IsGiven given
-  some_given = known_given octets m.names m.chosen (path ∷ others) marked.theirs marked.saved
+      rows_refused : {A : Type 0} (new : Device) (w : Result (Vec ℕ A × Tally) Fault)
+          → WriteRowsResult octets paths runs t old new w → (g f : Fault) (r : Result Status Fault) → w ≡ Err g
+          → r ≡ Err f → f ≡ g → result_of new r
+      rows_refused {A = A} new w h g f r was is of =
+          rw (is, of) (not_written A new g (subst (λ z. WriteRowsResult octets paths runs t old new z) was h))
 
-  -- the text by other words
-  pub head_is : (text start items : List ℕ) (f : Form) → f ≡ form → start ≡ []
-      → items ≡ start ++ form_text f m.others → text ≡ items → text ≡ head
-  head_is text start items f is none put same =
-      same ∙ put ∙ ap (λ z. z ++ form_text f m.others) none ∙ ap (λ z. form_text z m.others) is
+      -- all but the last octets were written
+      module _ {A : Type 0} (late : Device) (last : Vec ℕ A) (told : Tally)
+          (written : WriteRowsResult octets paths runs t old late (Ok (last, told))) where
+        is : IsWritten t old late last.items told its
+        is = of_runs (IsWritten t old late last.items told) written
 
-  -- the stream failed at a front of the list
-  stopped_at : (new : Device) (text rest : List ℕ) (all : List Fact) (are : IsGiven all) (f : Fault)
-      → form_text form all ≡ text ++ rest → PutFailure old new (head ++ text) f → result_of new (Err f)
-  stopped_at new text rest all are (Write to) cut h =
-      let failure : PutFailure old new (head ++ form_text form all) (Write to) = (
-        h.0,
-        stopped_whole old new (head ++ text) rest (head ++ form_text form all)
-            (ap (λ z. head ++ z) cut ∙ sym (append_assoc head text rest)) h.1,
-      ) in
-      inl ((given_of all are).facts, head ++ form_text form all, listed all are, failure)
-  stopped_at new text rest all are f cut h = absurd h
+        are : IsGiven is.is.given
+        are = given_as is.is.given is.is.are
 
-  -- the list was written up to there
-  broken_at : (new : Device) (text rest : List ℕ) (all : List Fact) (are : IsGiven all)
-      → form_text form all ≡ text ++ rest → HasGained old new (head ++ text)
-      → IsListBrokenOff view octets (path ∷ others) old new
-  broken_at new text rest all are cut gained = record {
-    facts = (given_of all are).facts;
-    text = head ++ form_text form all;
-    list = listed all are;
-    output = record {
-      front = head ++ text;
-      rest = rest;
-      cut = ap (λ z. head ++ z) cut ∙ sym (append_assoc head text rest);
-      gained = gained;
-    };
-  }
+        abbrev known : List Fact
+        known = (given_of is.is.given are).facts
 
-  -- the stream failed at the text of facts that are no records
-  pub head_stopped : (new : Device) (text : List ℕ) → text ≡ head → (g f : Fault) (r : Result Status Fault) → r ≡ Err f
-      → f ≡ g → PutFailure old new text g → result_of new r
-  head_stopped new text is g f r was of h =
-      let some = some_given in
-      rw (was, of) (stopped_at new [] (form_text form some.0) some.0 some.1 g refl
-      (subst (λ z. PutFailure old new z g) (is ∙ sym (append-nil head)) h))
+        -- what was told is not so
+        not_as_told : (first : Bor (List ℕ)) → first.now ≡ path → result_of late (Err (Read first))
+        not_as_told first same = inr (
+          refused first (subst (λ z. Contains (path ∷ others) z) (sym same) (in_head path others)),
+          broken_at late is.text
+              (record { given = is.is.given; rest = last.items; are = are; cut = sym is.is.octets }) is.gained,
+        )
 
-  -- behind that text
-  module _ (mid : Device) (put : HasGained old mid head) where
-    cut_at : (new : Device) → IsCutOff taken mid new its → IsListBrokenOff view octets (path ∷ others) old new
-    cut_at new cut =
-        broken_at new cut.text cut.is.rest cut.is.given cut.is.are (sym cut.is.octets)
-        (gained_more old mid new head cut.text put cut.gained)
+        failed : HasFailure known ↔ (m.failed ≡ true)
+        failed = has_failed octets path others [] Others m marked is.is.given (given_of is.is.given are)
 
-    not_written : (A : Type 0) (new : Device) (f : Fault)
-        → WriteRowsResult octets (path ∷ others) m.runs.items taken {A = A} mid new (Err f) → result_of new (Err f)
-    not_written A new (Read failed) h = inr (
-      refused_among octets m.names (path ∷ others) marked.theirs marked.saved failed.now h.0 (Read failed) refl,
-      cut_at new (of_runs (IsCutOff taken mid new) h.1),
-    )
-    not_written A new (Write failed) h =
-        let s = of_runs (IsStopped taken mid new) h.1 in
-        stopped_at new s.text s.is.rest s.is.given s.is.are (Write failed) (sym s.is.octets)
-        (h.0 ∙ put.path, gained_stopped old mid new head s.text put s.stopped)
-    not_written A new Memory (inl same) =
-        let some = some_given in
-        inr (broken_at new [] (form_text form some.0) some.0 some.1 refl
-        (gained_more old mid new head [] put (gained_none mid new same)))
-    not_written A new Memory (inr cut) = inr (cut_at new (of_runs (IsCutOff taken mid new) cut))
-    not_written A new f h = absurd h
+        status_known : (b : Bool) → m.failed ≡ b → (status : Status) → IsStatusOf b status → IsKnownStatus known status
+        status_known true e status h = subst (IsKnownStatus known) (sym h) (failed.1 e)
+        status_known false e status h =
+            subst (IsKnownStatus known) (sym h) (λ one. let no : m.failed ≡ true = failed.0 one in absurd cc)
 
-    -- the same paths, runs and form by other words
-    pub moved : {A : Type 0} (new : Device) (paths : List (List ℕ)) (runs : List Run) (f : Form) → paths ≡ path ∷ others
-        → runs ≡ m.runs.items → f ≡ form → (w : Result (Vec ℕ A × Tally) Fault)
-        → WriteRowsResult octets paths runs (record { chosen = m.chosen; form = f }) mid new w
-        → WriteRowsResult octets (path ∷ others) m.runs.items taken mid new w
-    moved new paths runs f same_paths same_runs same_form w h =
-        subst (λ z. WriteRowsResult octets (path ∷ others) m.runs.items (record { chosen = m.chosen; form = z }) mid new
-        w) same_form
-        (subst (λ z. WriteRowsResult octets (path ∷ others) z (record { chosen = m.chosen; form = f }) mid new w) same_runs
-        (subst (λ z. WriteRowsResult octets z runs (record { chosen = m.chosen; form = f }) mid new w) same_paths h))
+        module _ (as_told : IsAsTold form told) where
+          list : IsListOf octets view (path ∷ others) known (text_of is.is.given)
+          list = listed is.is.given are (told_fit form is.is.given told is.is.tally as_told)
 
-    pub rows_refused : {A : Type 0} (new : Device) (w : Result (Vec ℕ A × Tally) Fault)
-        → WriteRowsResult octets (path ∷ others) m.runs.items taken mid new w → (g f : Fault)
-        (r : Result Status Fault) → w ≡ Err g → r ≡ Err f → f ≡ g → result_of new r
-    rows_refused {A = A} new w h g f r was is of = rw (is, of) (not_written A new g
-        (subst (λ z. WriteRowsResult octets (path ∷ others) m.runs.items taken mid new z) was h))
+          ended : (new : Device) (text : List ℕ) (status : Status) (r : Result Status Fault) → text ≡ last.items
+              → IsStatusOf m.failed status → PutListResult text status late new r → result_of new r
+          ended new text status (Ok s) of state h = inl (
+            known,
+            text_of is.is.given,
+            list,
+            subst (IsKnownStatus known) (sym h.0) (status_known m.failed refl status state),
+            subst (λ z. HasGained old new z) (ap (λ z. is.text ++ z) of ∙ is.is.octets)
+                (gained_more old late new is.text text is.gained h.1),
+          )
+          ended new text status (Err (Write to)) of state h =
+              let failure : PutFailure old new (text_of is.is.given) (Write to) = (
+                h.0 ∙ is.gained.path,
+                subst (λ z. HasStopped old new z) (ap (λ z. is.text ++ z) of ∙ is.is.octets)
+                    (gained_stopped old late new is.text text is.gained h.1),
+              ) in
+              inl (known, text_of is.is.given, list, failure)
+          ended new text status (Err f) of state h = absurd h
 
-    -- behind all but the last octets
-    module _ {A : Type 0} (late : Device) (last : Vec ℕ A) (told : Tally)
-        (written : WriteRowsResult octets (path ∷ others) m.runs.items taken mid late (Ok (last, told))) where
-      abbrev is : IsWritten taken mid late last.items told its
-      is = of_runs (IsWritten taken mid late last.items told) written
+  -- the same, where what is taken is known by what was written
+  module _ (law : AllFormLaws) (title_law : AllTitlePartLaws) (shape : PartedView) (paths : List (List ℕ))
+      (runs : List Run) (same_paths : paths ≡ path ∷ others) (same_runs : runs ≡ m.runs.items) where
+    pub join_refused_rows : {A : Type 0} (new : Device) (w : Result (Vec ℕ A × Tally) Fault) (t : Taking)
+        → WriteRowsResult octets paths runs t old new w → IsReady shape t → (g f : Fault) (r : Result Status Fault)
+        → w ≡ Err g → r ≡ Err f → f ≡ g → result_of new r
+    join_refused_rows new w t h is_ready g f r was is of =
+        rows_refused law title_law shape t is_ready paths runs same_paths same_runs new w h g f r was is of
 
-      so_far : HasGained old late (head ++ is.text)
-      so_far = gained_more old mid late head is.text put is.gained
+    pub join_changed : {A : Type 0} (late : Device) (last : Vec ℕ A) (told : Tally) (t : Taking)
+        → WriteRowsResult octets paths runs t old late (Ok (last, told)) → IsReady shape t → (first : Bor (List ℕ))
+        → first.now ≡ path → result_of late (Err (Read first))
+    join_changed late last told t written is_ready first same =
+        not_as_told law title_law shape t is_ready paths runs same_paths same_runs late last told written first same
 
-      whole : (text : List ℕ) → text ≡ last.items
-          → (head ++ is.text) ++ text ≡ head ++ form_text form is.is.given
-      whole text of = append_assoc head is.text text ∙ ap (λ z. head ++ z) (ap (λ z. is.text ++ z) of ∙ is.is.octets)
-
-      abbrev known : List Fact
-      known = (given_of is.is.given is.is.are).facts
-
-      failed : HasFailure known ↔ (m.failed ≡ true)
-      failed =
-          has_failed octets path others [] Others m marked is.is.given (given_of is.is.given is.is.are)
-
-      status_known : (b : Bool) → m.failed ≡ b → (status : Status) → IsStatusOf b status → IsKnownStatus known status
-      status_known true e status h = subst (IsKnownStatus known) (sym h) (failed.1 e)
-      status_known false e status h =
-          subst (IsKnownStatus known) (sym h) (λ one. let no : m.failed ≡ true = failed.0 one in absurd cc)
-
-      pub ended : (new : Device) (text : List ℕ) (status : Status) (r : Result Status Fault) → text ≡ last.items
-          → IsStatusOf m.failed status → PutListResult text status late new r → result_of new r
-      ended new text status (Ok s) of state h = inl (
-        known,
-        head ++ form_text form is.is.given,
-        listed is.is.given is.is.are,
-        subst (IsKnownStatus known) (sym h.0) (status_known m.failed refl status state),
-        subst (λ z. HasGained old new z) (whole text of) (gained_more old late new (head ++ is.text) text so_far h.1),
-      )
-      ended new text status (Err (Write to)) of state h =
-          let failure : PutFailure old new (head ++ form_text form is.is.given) (Write to) = (
-            h.0 ∙ so_far.path,
-            subst (λ z. HasStopped old new z) (whole text of)
-                (gained_stopped old late new (head ++ is.text) text so_far h.1),
-          ) in
-          inl (known, head ++ form_text form is.is.given, listed is.is.given is.is.are, failure)
-      ended new text status (Err f) of state h = absurd h
+    pub join_ended : {A : Type 0} (late : Device) (last : Vec ℕ A) (told : Tally) (t : Taking)
+        → WriteRowsResult octets paths runs t old late (Ok (last, told)) → IsReady shape t → IsAsTold t.form.now told
+        → (new : Device) (text : List ℕ) (status : Status) (r : Result Status Fault) → text ≡ last.items
+        → IsStatusOf m.failed status → PutListResult text status late new r → result_of new r
+    join_ended late last told t written is_ready as_told new text status r of state h =
+        ended law title_law shape t is_ready paths runs same_paths same_runs late last told written as_told new text
+        status r of state h

@@ -20,5 +20,7 @@ pub mod GivenJoined
 pub mod MarkedTheory
 pub mod Keeping
 pub mod Streaming
+pub mod FormJoined
 pub mod JoinedTheory
 pub mod Writing
+pub mod Measuring

@@ -9,6 +9,7 @@ use Rattle.zknow.specs.Known.{HasFailure}
 use Rattle.zknow.specs.Tables.DistinctLaws.{none_in_nil, in_cons}
 use Rattle.zknow_forms.specs.declared.tally.Tally.{Tally}
 use Rattle.zknow_records.specs.Records.{records_octets, left_out}
+use Rattle.zknow_records.specs.declared.left_out.LeftOut.{LeftOut}
 use Rattle.zknow_runs.specs.Rows.{Sources}
 use Rattle.zknow_runs.specs.declared.rows.Taking.{Taking}
 use Rattle.zknow_runs.specs.declared.run.Run.{Run}
@@ -27,7 +28,7 @@ use Rattle.zmeta_offline.specs.declared.scanned.Marked.{Marked}
 use Rattle.zmeta_offline.specs.declared.scanned.Noting.TheVariants.{Failures}
 use Rattle.zmeta_offline.proofs.Extracting.{files_refused}
 use Rattle.zmeta_offline.proofs.Joining.{kept}
-use Rattle.zmeta_offline.proofs.MarkedTheory.{marked_sources, marked_runs, marked_taken, taking, IsMarkedExtract, front_extract, rows_extract}
+use Rattle.zmeta_offline.proofs.MarkedTheory.{marked_sources, of_marked_runs, IsTaking, IsMarkedExtract, front_extract, rows_extract}
 use Rattle.zmeta_offline.proofs.SavedEach.{joined_each}
 
 -- ---- devices
@@ -137,132 +138,151 @@ module _ (e : WantedRecords) (octets : List ℕ → Option (List ℕ)) (paths : 
 module _ (e : WantedRecords) (octets : List ℕ → Option (List ℕ)) (path : List ℕ) (others : List (List ℕ))
     (before : Outputs) (m : Marked) (marked : AreMarked octets (path ∷ others) e.only Failures m)
     (oid : Option (List ℕ)) (syntax : IsChosenSyntax e.syntax oid) where
-  abbrev taken : Taking
-  taken = taking octets path others e Failures m marked oid syntax
-
   abbrev result_of : Outputs → Result Status Fault → Type 0
   result_of after result = StreamedResult e octets (path ∷ others) before after result
 
   abbrev its : Sources
   its = marked_sources octets path others e.only Failures m marked
 
-  -- what is so of all sources is so of these
-  of_runs : (P : Sources → Type 0) → IsOfRuns octets (path ∷ others) m.runs.items taken P → P its
-  of_runs P h =
-      h its (λ number. refl) (marked_runs octets path others e.only Failures m marked)
-      (marked_taken octets path others e.only Failures m marked)
+  -- all octets were written but the last, and this was left out
+  pub record HasWritten (mid : Outputs) (last : List ℕ) (told : LeftOut) : Type 0 where
+    pub text : List ℕ
+    pub gained : HasGained before.output mid.output text
+    pub facts : List Fact
+    pub extract : IsMarkedExtract octets path others e Failures m marked oid syntax facts
+    pub is : text ++ last ≡ records_octets oid e.conflicts facts
+    pub left : told ≡ left_out oid e.conflicts facts
 
-  -- a front of the records was written
-  pub late : (after : Outputs) → after.errors ≡ before.errors → IsCutOff taken before.output after.output its
-      → IsBrokenOff e octets (path ∷ others) before after
-  late after same cut =
-      let x = front_extract octets path others e Failures m marked oid syntax cut.text cut.is in record {
-        facts = x.0;
-        oid = oid;
-        extract = x.2.extract;
-        output = record { front = cut.text; rest = x.1; cut = x.3; gained = cut.gained };
-        errors = same;
-      }
+  module _ (mid : Outputs) (mid_same : mid.errors ≡ before.errors) (last : List ℕ) (told : LeftOut)
+      (x : HasWritten mid last told) where
+    -- no memory was found for the lines
+    pub no_lines : (f : Fault) (r : Result Status Fault) → r ≡ Err f → f ≡ Memory → result_of mid r
+    no_lines f r is_err of = rw (is_err, of) (inr (record {
+      facts = x.facts;
+      oid = oid;
+      extract = x.extract.extract;
+      output = record { front = x.text; rest = last; cut = sym x.is; gained = x.gained };
+      errors = mid_same;
+    }))
 
-  -- the stream failed
-  stopped : (after : Outputs) (to : Bor (List ℕ)) → after.errors ≡ before.errors → to.now ≡ before.output.path
-      → IsStopped taken before.output after.output its → result_of after (Err (Write to))
-  stopped after to same named s =
-      let x = front_extract octets path others e Failures m marked oid syntax s.text s.is in
-      inl (
-        x.0,
-        oid,
-        x.2.extract,
-        named,
-        stopped_whole before.output after.output s.text x.1 (records_octets oid e.conflicts x.0) x.3 s.stopped,
-        same,
-      )
+    -- the stream failed at the last octets
+    not_put : (text lines : List ℕ) (after : Outputs) → text ≡ last → (f : Fault)
+        → PutRecordsResult text lines mid after (Err f) → result_of after (Err f)
+    not_put text lines after of (Write failed) h = inl (
+      x.facts,
+      oid,
+      x.extract.extract,
+      h.0 ∙ x.gained.path,
+      subst (λ z. HasStopped before.output after.output z) (ap (λ z. x.text ++ z) of ∙ x.is)
+          (gained_stopped before.output mid.output after.output x.text text x.gained h.1),
+      h.2 ∙ mid_same,
+    )
+    not_put text lines after of f h = absurd h
 
-  not_written : (A : Type 0) (after : Outputs) → after.errors ≡ before.errors → (f : Fault)
-      → WriteRowsResult octets (path ∷ others) m.runs.items taken {A = A} before.output after.output (Err f)
-      → result_of after (Err f)
-  not_written A after same (Read failed) h = inr (
-    refused_among octets m.names (path ∷ others) marked.theirs marked.saved failed.now h.0 (Read failed) refl,
-    late after same (of_runs (IsCutOff taken before.output after.output) h.1),
-  )
-  not_written A after same (Write failed) h =
-      stopped after failed same h.0 (of_runs (IsStopped taken before.output after.output) h.1)
-  not_written A after same Memory (inl none) = inl (none, same)
-  not_written A after same Memory (inr cut) =
-      inr (late after same (of_runs (IsCutOff taken before.output after.output) cut))
-  not_written A after same f h = absurd h
+    pub put_refused : (text lines : List ℕ) (after : Outputs) → text ≡ last → (g f : Fault)
+        (r : Result Status Fault) → r ≡ Err f → f ≡ g → PutRecordsResult text lines mid after (Err g)
+        → result_of after r
+    put_refused text lines after of g f r is_err same h = rw (is_err, same) (not_put text lines after of g h)
 
-  -- the same paths and runs by other words
-  pub moved : {A : Type 0} (after : Outputs) (paths : List (List ℕ)) (runs : List Run) → paths ≡ path ∷ others
-      → runs ≡ m.runs.items → (w : Result (Vec ℕ A × Tally) Fault)
-      → WriteRowsResult octets paths runs taken before.output after.output w
-      → WriteRowsResult octets (path ∷ others) m.runs.items taken before.output after.output w
-  moved after paths runs same_paths same_runs w h =
-      subst (λ z. WriteRowsResult octets (path ∷ others) z taken before.output after.output w) same_runs
-      (subst (λ z. WriteRowsResult octets z runs taken before.output after.output w) same_paths h)
+    status_known : (b : Bool) → m.failed ≡ b → (status : Status) → IsStatusOf b status → IsKnownStatus x.facts status
+    status_known true e status h = subst (IsKnownStatus x.facts) (sym h) (x.extract.failed.1 e)
+    status_known false e status h =
+        subst (IsKnownStatus x.facts) (sym h) (λ one. let no : m.failed ≡ true = x.extract.failed.0 one in absurd cc)
 
-  pub rows_refused : {A : Type 0} (after : Outputs) → after.errors ≡ before.errors
-      → (w : Result (Vec ℕ A × Tally) Fault)
-      → WriteRowsResult octets (path ∷ others) m.runs.items taken before.output after.output w → (g f : Fault)
-      (r : Result Status Fault) → w ≡ Err g → r ≡ Err f → f ≡ g → result_of after r
-  rows_refused {A = A} after same w h g f r was is of = rw (is, of) (not_written A after same g
-      (subst (λ z. WriteRowsResult octets (path ∷ others) m.runs.items taken before.output after.output z) was h))
+    pub streamed : (text lines : List ℕ) (after : Outputs) (status : Status) → text ≡ last
+        → lines ≡ left_text told → IsStatusOf m.failed status → PutRecordsResult text lines mid after (Ok tt)
+        → result_of after (Ok status)
+    streamed text lines after status of put state h = inl (
+      x.facts,
+      oid,
+      x.extract.extract,
+      status_known m.failed refl status state,
+      subst (λ z. HasGained before.output after.output z) (ap (λ z. x.text ++ z) of ∙ x.is)
+          (gained_more before.output mid.output after.output x.text text x.gained h.0),
+      subst (λ z. AfterTellLines before.errors after.errors z) (put ∙ ap left_text x.left)
+          (subst (λ z. AfterTellLines z after.errors lines) mid_same h.1),
+    )
 
-  module _ {A : Type 0} (mid : Outputs) (mid_same : mid.errors ≡ before.errors) (last : Vec ℕ A) (told : Tally)
-      (written : WriteRowsResult octets (path ∷ others) m.runs.items taken before.output mid.output (Ok (last, told)))
-    where
-      is : IsWritten taken before.output mid.output last.items told its
-      is = of_runs (IsWritten taken before.output mid.output last.items told) written
+  module _ (t : Taking) (taken : IsTaking octets path others e Failures m marked oid syntax t)
+      (paths : List (List ℕ)) (runs : List Run) (same_paths : paths ≡ path ∷ others)
+      (same_runs : runs ≡ m.runs.items) where
+    -- what is so of all sources is so of these
+    of_runs : (P : Sources → Type 0) → IsOfRuns octets paths runs t.chosen.now P → P its
+    of_runs P h =
+        of_marked_runs octets path others e.only Failures m marked paths runs t.chosen.now same_paths same_runs
+        taken.chosen P h
 
-      x : (facts : List Fact) × IsMarkedExtract octets path others e Failures m marked oid syntax facts
-          × (is.text ++ last.items ≡ records_octets oid e.conflicts facts)
-          × (told.left ≡ left_out oid e.conflicts facts)
-      x = rows_extract octets path others e Failures m marked oid syntax (is.text ++ last.items) told is.is
+    -- a front of the records was written
+    late : (after : Outputs) → after.errors ≡ before.errors → IsCutOff t before.output after.output its
+        → IsBrokenOff e octets (path ∷ others) before after
+    late after same cut =
+        let x = front_extract octets path others e Failures m marked oid syntax t taken cut.text cut.is in record {
+          facts = x.0;
+          oid = oid;
+          extract = x.2.extract;
+          output = record { front = cut.text; rest = x.1; cut = x.3; gained = cut.gained };
+          errors = same;
+        }
 
-      -- no memory was found for the lines
-      pub no_lines : (f : Fault) (r : Result Status Fault) → r ≡ Err f → f ≡ Memory → result_of mid r
-      no_lines f r is_err of = rw (is_err, of) (inr (record {
-        facts = x.0;
-        oid = oid;
-        extract = x.1.extract;
-        output = record { front = is.text; rest = last.items; cut = sym x.2; gained = is.gained };
-        errors = mid_same;
-      }))
+    -- the stream failed
+    stopped : (after : Outputs) (to : Bor (List ℕ)) → after.errors ≡ before.errors → to.now ≡ before.output.path
+        → IsStopped t before.output after.output its → result_of after (Err (Write to))
+    stopped after to same named s =
+        let x = front_extract octets path others e Failures m marked oid syntax t taken s.text s.is in
+        inl (
+          x.0,
+          oid,
+          x.2.extract,
+          named,
+          stopped_whole before.output after.output s.text x.1 (records_octets oid e.conflicts x.0) x.3 s.stopped,
+          same,
+        )
 
-      -- the stream failed at the last octets
-      not_put : (text lines : List ℕ) (after : Outputs) → text ≡ last.items → (f : Fault)
-          → PutRecordsResult text lines mid after (Err f) → result_of after (Err f)
-      not_put text lines after of (Write failed) h = inl (
-        x.0,
-        oid,
-        x.1.extract,
-        h.0 ∙ is.gained.path,
-        subst (λ z. HasStopped before.output after.output z) (ap (λ z. is.text ++ z) of ∙ x.2)
-            (gained_stopped before.output mid.output after.output is.text text is.gained h.1),
-        h.2 ∙ mid_same,
-      )
-      not_put text lines after of f h = absurd h
+    not_written : (A : Type 0) (after : Outputs) → after.errors ≡ before.errors → (f : Fault)
+        → WriteRowsResult octets paths runs {A = A} t before.output after.output (Err f)
+        → result_of after (Err f)
+    not_written A after same (Read failed) h = inr (
+      refused_among octets m.names (path ∷ others) marked.theirs marked.saved failed.now
+          (subst (λ (z : List (List ℕ)). Contains z failed.now) same_paths h.0) (Read failed) refl,
+      late after same (of_runs (IsCutOff t before.output after.output) h.1),
+    )
+    not_written A after same (Write failed) h =
+        stopped after failed same h.0 (of_runs (IsStopped t before.output after.output) h.1)
+    not_written A after same Memory (inl none) = inl (none, same)
+    not_written A after same Memory (inr cut) =
+        inr (late after same (of_runs (IsCutOff t before.output after.output) cut))
+    not_written A after same f h = absurd h
 
-      pub put_refused : (text lines : List ℕ) (after : Outputs) → text ≡ last.items → (g f : Fault)
-          (r : Result Status Fault) → r ≡ Err f → f ≡ g → PutRecordsResult text lines mid after (Err g)
-          → result_of after r
-      put_refused text lines after of g f r is_err same h = rw (is_err, same) (not_put text lines after of g h)
+    rows_refused : {A : Type 0} (after : Outputs) → after.errors ≡ before.errors
+        → (w : Result (Vec ℕ A × Tally) Fault)
+        → WriteRowsResult octets paths runs t before.output after.output w → (g f : Fault)
+        (r : Result Status Fault) → w ≡ Err g → r ≡ Err f → f ≡ g → result_of after r
+    rows_refused {A = A} after same w h g f r was is of = rw (is, of) (not_written A after same g
+        (subst (λ z. WriteRowsResult octets paths runs t before.output after.output z) was h))
 
-      status_known : (b : Bool) → m.failed ≡ b → (status : Status) → IsStatusOf b status → IsKnownStatus x.0 status
-      status_known true e status h = subst (IsKnownStatus x.0) (sym h) (x.1.failed.1 e)
-      status_known false e status h =
-          subst (IsKnownStatus x.0) (sym h) (λ one. let no : m.failed ≡ true = x.1.failed.0 one in absurd cc)
+    written : {A : Type 0} (mid : Outputs) (last : Vec ℕ A) (told : Tally)
+        → WriteRowsResult octets paths runs t before.output mid.output (Ok (last, told))
+        → HasWritten mid last.items told.left
+    written mid last told h =
+        let is : IsWritten t before.output mid.output last.items told its =
+        of_runs (IsWritten t before.output mid.output last.items told) h in
+        let x =
+        rows_extract octets path others e Failures m marked oid syntax t taken (is.text ++ last.items) told is.is in
+        record { text = is.text; gained = is.gained; facts = x.0; extract = x.1; is = x.2; left = x.3 }
 
-      pub streamed : (text lines : List ℕ) (after : Outputs) (status : Status) → text ≡ last.items
-          → lines ≡ left_text told.left → IsStatusOf m.failed status → PutRecordsResult text lines mid after (Ok tt)
-          → result_of after (Ok status)
-      streamed text lines after status of put state h = inl (
-        x.0,
-        oid,
-        x.1.extract,
-        status_known m.failed refl status state,
-        subst (λ z. HasGained before.output after.output z) (ap (λ z. is.text ++ z) of ∙ x.2)
-            (gained_more before.output mid.output after.output is.text text is.gained h.0),
-        subst (λ z. AfterTellLines before.errors after.errors z) (put ∙ ap left_text x.3)
-            (subst (λ z. AfterTellLines z after.errors lines) mid_same h.1),
-      )
+  -- the same, where what is taken is known by what was written
+  module _ (paths : List (List ℕ)) (runs : List Run) (same_paths : paths ≡ path ∷ others)
+      (same_runs : runs ≡ m.runs.items) where
+    pub records_refused : {A : Type 0} (after : Outputs) → after.errors ≡ before.errors
+        → (w : Result (Vec ℕ A × Tally) Fault) (t : Taking)
+        → WriteRowsResult octets paths runs t before.output after.output w
+        → IsTaking octets path others e Failures m marked oid syntax t → (g f : Fault) (r : Result Status Fault)
+        → w ≡ Err g → r ≡ Err f → f ≡ g → result_of after r
+    records_refused after same w t h taken g f r was is of =
+        rows_refused t taken paths runs same_paths same_runs after same w h g f r was is of
+
+    pub records_written : {A : Type 0} (mid : Outputs) (last : Vec ℕ A) (told : Tally) (t : Taking)
+        → WriteRowsResult octets paths runs t before.output mid.output (Ok (last, told))
+        → IsTaking octets path others e Failures m marked oid syntax t → HasWritten mid last.items told.left
+    records_written mid last told t h taken =
+        written t taken paths runs same_paths same_runs mid last told h

@@ -78,21 +78,21 @@ module _ (octets : List ℕ → Option (List ℕ)) (paths : List (List ℕ)) (ru
     pub ended : (now : Device) (reader : Reader) (rows : Rows) (last : List ℕ) (told : Tally)
         → ((s : Sources) (t : Taking) (text : List ℕ) → HoldsOf s t text rows → AreRowsOf s t (text ++ last) told)
         → IsGoing octets paths runs t start now reader rows
-        → IsOfRuns octets paths runs t (IsWritten t start now last told)
+        → IsOfRuns octets paths runs t.chosen.now (IsWritten t start now last told)
     ended now reader rows last told all going s files are taken =
         let w = going.holds s files are in record { text = w.0; gained = w.1; is = all s t w.0 w.2 }
 
     module _ (law : AllRowLaws) where
       -- it is broken off
       pub cut_off : (now : Device) (reader : Reader) (rows : Rows) → IsGoing octets paths runs t start now reader rows
-          → IsOfRuns octets paths runs t (IsCutOff t start now)
+          → IsOfRuns octets paths runs t.chosen.now (IsCutOff t start now)
       cut_off now reader rows going s files are taken =
           let w = going.holds s files are in
           record { text = w.0; gained = w.1; is = law s t w.0 rows w.2 taken }
 
       stopped : (A : Type 0) (old new : Device) (reader : Reader) (before after : Rows) (f : Fault)
           → HasNotPut old new before after f → IsGoing octets paths runs t start old reader before
-          → WriteRowsResult octets paths runs t {A = A} start new (Err f)
+          → WriteRowsResult octets paths runs {A = A} t start new (Err f)
       stopped A old new reader before after (Write to) has going = (
         has.failed.0 ∙ going.path,
         λ s files are taken.
@@ -106,7 +106,7 @@ module _ (octets : List ℕ → Option (List ℕ)) (paths : List (List ℕ)) (ru
 
       missed : (A : Type 0) (now : Device) (reader : Reader) (rows : Rows) (f : Fault) → IsReadFaultAmong paths f
           → IsGoing octets paths runs t start now reader rows
-          → WriteRowsResult octets paths runs t {A = A} start now (Err f)
+          → WriteRowsResult octets paths runs {A = A} t start now (Err f)
       missed A now reader rows (Read failed) among going = (among, cut_off now reader rows going)
       missed A now reader rows Memory among going = inr (cut_off now reader rows going)
       missed A now reader rows f among going = absurd among

@@ -1,14 +1,20 @@
 -- What is read of saved files where their records stand, and what is written of the records in a form.
-use Rattle.std.specs.Prelude.{◌≡◌, ◌⊎◌, ℕ, List, [], ◌++◌, slice_index_or, Contains, Option, IfSome, Result, Ok, Err, MatchResult, Vec, ⊤}
+use Rattle.std.specs.Prelude.{◌≡◌, ◌⊎◌, ℕ, true, List, [], ◌++◌, slice_index_or, Contains, Option, IfSome, Result, Ok, Err, MatchResult, Vec, ⊤}
 use Rattle.std.specs.List.{AllByRecursion}
 use Rattle.zknow.specs.declared.fact.Fact.{Fact}
+use Rattle.zknow.specs.declared.tables.keys.SetKey.{SetKey}
 use Rattle.zknow_forms.specs.declared.tally.Tally.{Tally}
 use Rattle.zknow_runs.specs.RowLaws.{AreRowsFrontOf}
-use Rattle.zknow_runs.specs.Rows.{StandAt, IsTaken, IsWantedOf, Sources, AreRunsIn, HoldsOf, AreRowsOf}
+use Rattle.zknow_runs.specs.Rows.{StandAt, IsTaken, IsWantedOf, Sources, AreRunsIn, AreGiven, HoldsOf, AreRowsOf}
+use Rattle.zknow_runs.specs.declared.rows.Chosen.{Chosen}
 use Rattle.zknow_runs.specs.declared.rows.Rows.{Rows}
 use Rattle.zknow_runs.specs.declared.rows.Taking.{Taking}
 use Rattle.zknow_runs.specs.declared.rows.Wanted.{Wanted}
 use Rattle.zknow_runs.specs.declared.run.Run.{Run}
+use Rattle.zknow_titles.specs.Blocks.{filled_in, filled_at}
+use Rattle.zknow_titles.specs.Rows.{widths}
+use Rattle.zknow_titles.specs.Titles.{rows_of}
+use Rattle.zknow_titles.specs.declared.rows.Widths.{Widths}
 use Rattle.zmeta_args.specs.Texts.{texts_of}
 use Rattle.zmeta_devices.specs.Devices.{Device, IsUnchanged, HasGained, HasStopped, PutFailure}
 use Rattle.zmeta_devices.specs.declared.fault.Fault.{Fault}
@@ -83,7 +89,12 @@ abbrev pub PutPieceResult : Device → Device → Rows → Rows → Result (Unit
 PutPieceResult old new before after result =
     MatchResult result (λ _. HasPut old new before after) (HasNotPut old new before after)
 
--- ---- the second pass
+-- ---- a pass over the records
+
+-- The facts may be given of these files: they are the known records, and others only if there is a file whose octets
+-- are not known.
+abbrev pub AreGivenOf : Sources → Chosen → List Fact → Type 0
+AreGivenOf s c given = AreGiven s.files (Contains s.known) (s.unknown ≡ true) c given
 
 -- the whole text was written, but for these octets
 pub record IsWritten (t : Taking) (old new : Device) (last : List ℕ) (told : Tally) (s : Sources) : Type 0 where
@@ -103,16 +114,31 @@ pub record IsStopped (t : Taking) (old new : Device) (s : Sources) : Type 0 wher
   pub stopped : HasStopped old new text
   pub is : AreRowsFrontOf s t text
 
-module _ (octets : List ℕ → Option (List ℕ)) (paths : List (List ℕ)) (runs : List Run) (t : Taking) where
+-- These are the columns that the rows of facts need that may be given, and the numbers of positions at which a record
+-- is shown.
+pub record IsMeasured (shown : List (List ℕ)) (c : Chosen) (w : Widths) (filled : List (SetKey × ℕ)) (s : Sources)
+    : Type 0 where
+  pub given : List Fact
+  pub are : AreGivenOf s c given
+  pub columns : w ≡ widths shown (rows_of given)
+  pub positions : (b : SetKey) → filled_at filled b ≡ filled_in given b
+
+module _ (octets : List ℕ → Option (List ℕ)) (paths : List (List ℕ)) (runs : List Run) where
   -- so it is of the files at these paths, if the runs have all their records that are taken
-  abbrev pub IsOfRuns : (Sources → Type 0) → Type 0
-  IsOfRuns P = (s : Sources) → AreFilesAt octets paths s → AreRunsIn s runs
-      → ((f : Fact) → Contains s.known f → IsTaken t.chosen f) → P s
+  abbrev pub IsOfRuns : Chosen → (Sources → Type 0) → Type 0
+  IsOfRuns c P = (s : Sources) → AreFilesAt octets paths s → AreRunsIn s runs
+      → ((f : Fact) → Contains s.known f → IsTaken c f) → P s
 
   -- all was written, but for the last octets, or why not
-  abbrev pub WriteRowsResult : {A : Type 0} → Device → Device → Result (Vec ℕ A × Tally) Fault → Type 0
-  WriteRowsResult old new (Ok r) = IsOfRuns (IsWritten t old new r.0.items r.1)
-  WriteRowsResult old new (Err (Read failed)) = Contains paths failed.now × IsOfRuns (IsCutOff t old new)
-  WriteRowsResult old new (Err (Write failed)) = (failed.now ≡ old.path) × IsOfRuns (IsStopped t old new)
-  WriteRowsResult old new (Err Memory) = IsUnchanged old new ⊎ IsOfRuns (IsCutOff t old new)
-  WriteRowsResult old new (Err _) = ⊥
+  abbrev pub WriteRowsResult : {A : Type 0} → Taking → Device → Device → Result (Vec ℕ A × Tally) Fault → Type 0
+  WriteRowsResult t old new (Ok r) = IsOfRuns t.chosen.now (IsWritten t old new r.0.items r.1)
+  WriteRowsResult t old new (Err (Read failed)) = Contains paths failed.now × IsOfRuns t.chosen.now (IsCutOff t old new)
+  WriteRowsResult t old new (Err (Write failed)) =
+      (failed.now ≡ old.path) × IsOfRuns t.chosen.now (IsStopped t old new)
+  WriteRowsResult t old new (Err Memory) = IsUnchanged old new ⊎ IsOfRuns t.chosen.now (IsCutOff t old new)
+  WriteRowsResult t old new (Err _) = ⊥
+
+  -- all was measured, or why not
+  abbrev pub MeasureRowsResult : Chosen → List (List ℕ) → Result Tally Fault → Type 0
+  MeasureRowsResult c shown (Ok told) = IsOfRuns c (IsMeasured shown c told.widths told.filled.entries)
+  MeasureRowsResult c shown (Err f) = IsReadFaultAmong paths f

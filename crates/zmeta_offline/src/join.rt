@@ -26,9 +26,9 @@ use zmeta_devices::output::Output;
 /// If a file is refused, or has other names than those before it, writes the reason on `errors` and prints
 /// nothing. Each file is read before the next is opened.
 ///
-/// For a list or lines of JSON, files are read twice if all of them can be, and may outgrow memory. If one cannot be
-/// read the second time, is not as it was, or no memory is found then, a front of the list may have been printed before
-/// the reason.
+/// For all but a page, files may outgrow memory: they are read twice if all of them can be, and thrice for titles and
+/// fields. If one cannot be read again, is not as it was, or no memory is found then, a front of the list may have been
+/// printed before the reason.
 ///
 /// Returns `Failed` if the list has a search or an association that failed.
 pub fn join_named<'a, 'o: 'a, F: Folder, W: Write, E: Write>(
@@ -48,7 +48,7 @@ pub fn join_named<'a, 'o: 'a, F: Folder, W: Write, E: Write>(
     end(answer, errors)
 }
 
-/// Prints the list, and returns the status. A list and lines of JSON are a stream if all files can be read twice.
+/// Prints the list, and returns the status. All but a page is a stream if all files can be read more than once.
 fn join_wanted<'a, 'o: 'a, F: Folder, W: Write>(
     alloc: Global,
     files: &'a F,

@@ -168,12 +168,14 @@ fn records_streamed<'a, 'o: 'a, F: Folder, W: Write, E: Write>(
         wanted.only,
         Noting::Failures,
     )?;
+    let form = Form::Octets {
+        syntax,
+        conflicts: wanted.conflicts,
+    };
     let taking = Taking {
-        chosen,
-        form: Form::Octets {
-            syntax,
-            conflicts: wanted.conflicts,
-        },
+        chosen: &chosen,
+        form: &form,
+        head: Vec::new(alloc),
     };
     let (last, tally) = write_rows(
         alloc,

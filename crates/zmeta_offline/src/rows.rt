@@ -1,15 +1,16 @@
-//! The records of saved files that outgrow memory, by position: the second pass over such files.
-ghost use Rattle.std.specs.Prelude.{◌≡◌, ◌<◌, ℕ, List, Option, length, IfOk, IfErr, IfSome, OnOk};
+//! The records of saved files that outgrow memory, by position: the passes behind the first.
+ghost use Rattle.std.specs.Prelude.{◌≡◌, ◌<◌, ℕ, List, Option, length, map, string_bytes, IfOk, IfErr, IfSome, OnOk};
 ghost use Rattle.zknow_runs.specs.Rows.{StandAt};
 ghost use Rattle.zmeta_args.specs.Texts.{texts_of};
 ghost use Rattle.zmeta_devices.specs.Devices.{output_device};
-ghost use Rattle.zmeta_offline.specs.Rows.{path_at, IsReader, IsReadFault, IsReadFaultAmong, IsKept, HasRead, PutPieceResult, WriteRowsResult};
+ghost use Rattle.zmeta_offline.specs.Rows.{path_at, IsReader, IsReadFault, IsReadFaultAmong, IsKept, HasRead, PutPieceResult};
+ghost use Rattle.zmeta_offline.specs.Rows.{WriteRowsResult, MeasureRowsResult};
 
 use std::alloc::{AllocError, Global};
 use std::io::Write;
-use zknow_forms::Tally;
+use zknow_forms::{Form, Tally};
 use zknow_runs::laws::row_laws;
-use zknow_runs::{ReadStep, Rows, Run, Taking, Wanted};
+use zknow_runs::{Chosen, ReadStep, Rows, Run, Taking, Wanted};
 use zmeta_devices::fault::Fault;
 use zmeta_devices::files::Folder;
 use zmeta_devices::input::Input;
@@ -236,8 +237,9 @@ fn put_piece<'o, W: Write>(rows: &mut Rows, output: &mut Output<'o, W>) -> Resul
     written
 }
 
-/// Writes the text of the records of these runs of the files at these paths, by position, target and set, in the form
-/// that is taken, but for its last octets: returns these, and what is told of the records.
+/// Writes what stands before the records, and the text of the records of these runs of the files at these paths, by
+/// position, target and set, in the form that is taken, but for the last octets: returns these, and what is told of the
+/// records.
 ///
 /// `Read` with the path of a file if it cannot be read, or is not as it was when its runs were found. `Memory` if no
 /// memory is found. Both can come behind a front of the text.
@@ -246,10 +248,10 @@ pub(crate) fn write_rows<'a, 'o: 'a, F: Folder, W: Write>(
     files: &F,
     paths: &[&'a str],
     runs: &[Run],
-    taking: Taking,
+    taking: Taking<'_>,
     output: &mut Output<'o, W>,
 ) -> Result<(Vec<u8>, Tally), Fault<'a>>
-    ensures { WriteRowsResult (F.octets files.now) (texts_of paths.now) runs.now taking
+    ensures { WriteRowsResult (F.octets files.now) (texts_of paths.now) runs.now taking.entry
         (output_device W.contents output.old) (output_device W.contents output.new) result }
 {
     row_laws();
@@ -261,6 +263,41 @@ pub(crate) fn write_rows<'a, 'o: 'a, F: Folder, W: Write>(
         };
         reader.read_next(files, wanted, &mut rows)?;
         put_piece(&mut rows, output)?;
+    }
+    Err(Fault::Memory)
+}
+
+/// Reads the records of these runs of the files at these paths, and writes nothing. Returns what the view for readers
+/// tells of them: the columns that its rows need, and at how many positions of each set a record is shown. `shown` has
+/// the names as `show_names` returns them.
+///
+/// `Read` with the path of a file if it cannot be read, or is not as it was when its runs were found. `Memory` if no
+/// memory is found.
+pub(crate) fn measure_rows<'a, F: Folder>(
+    alloc: Global,
+    files: &F,
+    paths: &[&'a str],
+    runs: &[Run],
+    chosen: &Chosen,
+    shown: Vec<String>,
+) -> Result<Tally, Fault<'a>>
+    ensures { MeasureRowsResult (F.octets files.now) (texts_of paths.now) runs.now chosen.now
+        (map string_bytes shown.items) result }
+{
+    let form = Form::Measures { shown };
+    let taking = Taking {
+        chosen,
+        form: &form,
+        head: Vec::new(alloc),
+    };
+    let mut reader = Reader::new(alloc, paths, runs.len())?;
+    let mut rows = Rows::new(alloc, taking, runs)?;
+    for _ in 0..u64::MAX {
+        let Some(wanted) = rows.wanted() else {
+            let (_, told) = rows.finish()?;
+            return Ok(told);
+        };
+        reader.read_next(files, wanted, &mut rows)?;
     }
     Err(Fault::Memory)
 }

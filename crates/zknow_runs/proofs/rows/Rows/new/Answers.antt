@@ -20,7 +20,7 @@ returns c = λ s all.
     let taken : take c.loop-number.number c.args.runs.now ≡ c.args.runs.now =
     take_all c.loop-number.number c.args.runs.now (search rules) in (
       [],
-      begun s.files (Contains s.known) (s.unknown ≡ true) c.args.taking c.args.runs.now _ refl refl c.new.ensures refl
-          c.new-2.ensures.items (search rules)
+      begun s.files (Contains s.known) (s.unknown ≡ true) c.args.taking c.args.runs.now _ refl refl refl c.new.ensures
+          refl refl (c.new-2.ensures c.args.taking.form.now)
           (subst (λ (l : List Run). AreSameRuns l c.loop-number.waiting) taken c.loop-number.invariant) all,
     )
