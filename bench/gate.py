@@ -11,6 +11,8 @@ import re
 import sys
 
 TOP = os.path.dirname(os.path.dirname(os.path.abspath(__file__)))
+sys.path.insert(0, f"{TOP}/scripts")
+import crates  # noqa: E402
 
 
 def read(path):
@@ -18,19 +20,10 @@ def read(path):
         return it.read()
 
 
-def crates():
+def crates_of_each():
     """Each crate, and the crates of the repository that its line names."""
-    lines = [it.split("#")[0].partition(":") for it in read("crates.txt").splitlines()]
-    named = {name.strip(): words.split() for name, colon, words in lines if colon}
+    named = crates.rows()
     return {name: [it for it in words if it in named] for name, words in named.items()}
-
-
-def below(name, of):
-    found, left = set(), [name]
-    while left:
-        found |= (new := {*of[left.pop()]} - found)
-        left += new
-    return found
 
 
 def count_lines(name):
@@ -49,7 +42,7 @@ def tasks(of):
     table = read("docs/GATE.md").partition("## By crate")[2].partition("\n## ")[0]
     rows = {row[1]: [int(re.sub(r"\D", "", it) or 0) for it in row[2].split("|")]
             for row in re.finditer(r"^\| `(\w+)` \|(.*)\|$", table, re.M)}
-    for name in sorted(of, key=lambda it: len(below(it, of))):
+    for name in sorted(of, key=lambda it: len(crates.below([it], of))):
         proof, tests, edits, _, edit, _ = rows[name]
         waits = [(it, "proof") for it in of[name]]
         made[name, "proof"] = waits, proof, count_lines(name)
@@ -96,7 +89,7 @@ def main():
         sys.exit(__doc__)
     cores = int(words[0])
     checks = int(words[1]) if len(words) > 1 else min(cores, 3)
-    made = tasks(crates())
+    made = tasks(crates_of_each())
     whole = sum(it[1] for it in made.values())
     took = play(made, cores, checks, "-v" in sys.argv)
     side = f"{cores} cores with {checks} checks at a time"

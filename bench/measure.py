@@ -4,6 +4,7 @@ repository, once `rt run` has built crates/zmeta/out/zmeta. Files go to FOLDER (
 more."""
 
 import os
+import pathlib
 import re
 import shutil
 import subprocess
@@ -12,21 +13,21 @@ import tempfile
 import time
 
 TOP = os.path.dirname(os.path.dirname(os.path.abspath(__file__)))
-BELOW = ("zber", "zasn_tables", "zasn", "zquery_rpn", "zapdu")
+sys.path.insert(0, f"{TOP}/scripts")
+import crates  # noqa: E402
+
 ZMETA = f"{TOP}/crates/zmeta/out/zmeta"
 
 
 def build_decode(folder):
     """The program of bench/decode.rt.txt, proved and built as a crate above the repository's own."""
-    top = f"{folder}/repository"
-    os.makedirs(f"{top}/crates", exist_ok=True)
-    lines = [it for it in open(f"{TOP}/crates.txt") if it.split(":")[0] in BELOW]
-    with open(f"{top}/crates.txt", "w") as file:
-        file.writelines([*lines, "decode: zber zapdu\n"])
-    for name in BELOW:
-        if not os.path.exists(f"{top}/crates/{name}"):
-            subprocess.run(["cp", "-a", f"{TOP}/crates/{name}", f"{top}/crates/{name}"], check=True)
-    os.makedirs(f"{top}/crates/decode/src", exist_ok=True)
+    top = pathlib.Path(folder, "repository")
+    shutil.rmtree(top, ignore_errors=True)
+    top.mkdir(parents=True)
+    crates.copy(["zapdu"], top)
+    with open(top / "crates.txt", "a", encoding="utf-8") as file:
+        file.write("decode: zber zapdu\n")
+    os.makedirs(f"{top}/crates/decode/src")
     shutil.copyfile(f"{TOP}/bench/decode.rt.txt", f"{top}/crates/decode/src/main.rt")
     with open(f"{folder}/close.ber", "rb") as close:
         subprocess.run(["rt", "run", "--", "1", "4096"], cwd=f"{top}/crates/decode", stdin=close, check=True)

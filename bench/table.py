@@ -17,6 +17,9 @@ import sys
 import threading
 
 TOP = pathlib.Path(__file__).resolve().parent.parent
+sys.path.insert(0, str(TOP / "scripts"))
+import crates  # noqa: E402
+
 GATE = TOP / "docs/GATE.md"
 TICKS = os.sysconf("SC_CLK_TCK")
 EVERY = 0.5
@@ -77,15 +80,10 @@ def row_of(name, took, old):
     return f"| `{name}` |{code}|{tests}|{number(tried)}|{number(left)}|{each}|{most}|"
 
 
-def names():
-    lines = (TOP / "crates.txt").read_text(encoding="utf-8").splitlines()
-    return [it[1] for it in (re.match(r"(\w+):", line) for line in lines) if it]
-
-
 def main(words):
     is_shown = "--show" in words
     wanted = [it for it in words if it != "--show"]
-    if set(wanted) - set(names()):
+    if set(wanted) - set(crates.lines()):
         sys.exit(__doc__)
     status, took = measure(["rt", "ci", "--anew"] if not wanted else ["rt", "ci", "--anew", *wanted])
     if status:
@@ -93,7 +91,7 @@ def main(words):
     page = GATE.read_text(encoding="utf-8")
     head, rows = re.search(r"(?m)^(\| Crate \|.*\n\|[-|]+\|\n)((?:\|.*\n)+)", page).groups()
     old = {it[1]: it[2].split("|") for it in re.finditer(r"(?m)^\| `(\w+)` \|(.*)\|$", rows)}
-    new = "".join(row_of(name, took, old.get(name, [""] * 6)) + "\n" for name in names())
+    new = "".join(row_of(name, took, old.get(name, [""] * 6)) + "\n" for name in crates.lines())
     if is_shown:
         print(head + new, end="")
     else:

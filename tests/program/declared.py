@@ -4,8 +4,12 @@ import collections
 import functools
 import pathlib
 import re
+import sys
 
 TOP = pathlib.Path(__file__).resolve().parents[2]
+sys.path.insert(0, str(TOP / "scripts"))
+import crates  # noqa: E402
+
 CRATES = TOP / "crates"
 WORDS = re.compile(r"[^\W\d][\w']*")
 
@@ -135,12 +139,8 @@ class Library:
 
     def crates_below(self):
         """Each crate with all that stand below it, by crates.txt."""
-        table = {}
-        for line in (TOP / "crates.txt").read_text(encoding="utf-8").split("\n"):
-            if line and not line.startswith("#"):
-                name, _, others = line.partition(":")
-                table[name] = {name}.union(*(table.get(it, ()) for it in others.split()))
-        return {it: table.get(it, {it}) for it in self.crates}
+        rows = crates.rows()
+        return {it: crates.below([it], rows) | {it} for it in self.crates}
 
     @functools.cache
     def members(self, name):

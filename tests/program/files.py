@@ -6,7 +6,7 @@ import re
 import sys
 import textwrap
 
-from declared import CRATES, TOP
+from declared import CRATES, crates
 
 COLUMNS = 100
 HEAD = """# Source files
@@ -18,11 +18,6 @@ file, and `CALLING.md` in the folder of a crate tells how it is called.
 
 `python3 tests/program/files.py > docs/FILES.md` makes this page.
 """
-
-
-def crates():
-    """The names of the crates, in the order of crates.txt."""
-    return re.findall(r"(?m)^(\w+)", (TOP / "crates.txt").read_text(encoding="utf-8"))
 
 
 def first_sentence(text):
@@ -39,7 +34,7 @@ def item(text):
 
 def page():
     parts = [HEAD]
-    for crate in crates():
+    for crate in crates.lines():
         top = CRATES / crate / "src"
         files = sorted(top.rglob("*.rt"), key=lambda it: (it.name != "lib.rt", it.relative_to(top).parts))
         items = [item(f"`{it.relative_to(top)}`: {first_sentence(it.read_text(encoding='utf-8'))}") for it in files]
