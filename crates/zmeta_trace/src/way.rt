@@ -106,7 +106,7 @@ fn put_next(
     out: &mut Vec<u8>,
 ) -> Result<bool, AllocError>
     requires limited { framer.old.stream.limit ≡ MESSAGE_LIMIT }
-    requires sound { framer.old.stream.fault ≡ None }
+    requires no_fault { framer.old.stream.fault ≡ None }
     requires going { is_over.old ≡ false }
     ensures { IfOk result (NextResult (place_text place.now.at place.now.name.now place.now.mark.now)
         framer.old.stream framer.new.stream is_over.new out.old.items out.new.items) }
@@ -135,7 +135,7 @@ fn put_messages(
     out: &mut Vec<u8>,
 ) -> Result<bool, AllocError>
     requires limited { framer.old.stream.limit ≡ MESSAGE_LIMIT }
-    requires sound { framer.old.stream.fault ≡ None }
+    requires no_fault { framer.old.stream.fault ≡ None }
     ensures { IfOk result (λ over. AreAllShown (place_text place.now.at place.now.name.now place.now.mark.now)
         framer.old.stream.octets framer.new.stream over out.old.items out.new.items) }
 {
