@@ -186,9 +186,9 @@ class Library:
     @functools.cache
     def words_below(self, crate):
         """The definitions that each definition of a crate and of those below it names."""
-        crates = [self.crates[it].words for it in self.below[crate]]
-        names, table = set().union(*crates), collections.defaultdict(set)
-        for it in crates:
+        tables = [self.crates[it].words for it in self.below[crate]]
+        names, table = set().union(*tables), collections.defaultdict(set)
+        for it in tables:
             for name, words in it.items():
                 table[name] |= words & names
         return table
