@@ -1,5 +1,7 @@
 pub mod ApduKinds
 pub mod Decoding
+pub mod PlainFronts
+pub mod PlainLanes
 pub mod ReadingBack
 pub mod Refusals
 pub mod Tagged

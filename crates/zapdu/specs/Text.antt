@@ -2,6 +2,7 @@
 use Rattle.std.specs.Prelude.{ℕ, ℤ, ◌==◌, ◌||◌, ◌&&◌, nat_le, if◌then◌else◌, Bool, Option, Some, None}
 use Rattle.std.specs.Prelude.{List, [], ◌∷◌, ◌++◌, codes}
 use Rattle.std.specs.List.{flat_map}
+use Rattle.std.specs.Int.{w64, trailing_zeros}
 use Rattle.std.specs.Fmt.{signed_decimal}
 use Rattle.hex.specs.Hex.{encode_lower}
 use Rattle.zber.specs.Elements.{Element}
@@ -27,6 +28,10 @@ quoted_octet b =
     if b == 34 || b == 92 then 92 ∷ b ∷ [] else
     if nat_le 32 b && nat_le b 126 then b ∷ [] else
     codes "\\x" ++ encode_lower (b ∷ [])
+
+-- the place of the lowest bit that is set; 16 if none is
+abbrev pub first_set : ℕ → ℕ
+first_set mask = if mask == 0 then 16 else trailing_zeros w64 mask
 
 -- the octets in quotes
 abbrev pub quoted : List ℕ → List ℕ

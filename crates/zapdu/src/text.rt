@@ -1,16 +1,17 @@
 //! Prints the texts of octets, diagnostics and records.
-ghost use Rattle.std.specs.Prelude.{◌≡◌, ◌≤◌, ◌<◌, ◌∷◌, [], ◌++◌, length, take, IsTrue, IfOk, Bool, OnOk, OnErr, Option, MatchOption, Some, None};
+ghost use Rattle.std.specs.Prelude.{◌≡◌, ◌≤◌, ◌<◌, ◌∷◌, [], ◌++◌, length, take, drop, IsTrue, IfOk, Bool, OnOk, OnErr, Option, MatchOption, Some, None};
 ghost use Rattle.std.specs.List.{flat_map};
 ghost use Rattle.hex.specs.Hex.{encode_lower};
 ghost use Rattle.zber.specs.Canonical.{canonical};
 ghost use Rattle.zapdu.specs.Productions.Records.{whole_record};
-ghost use Rattle.zapdu.specs.Text.{quoted_octet, quoted, quoted_or_dash, ber_text, default_diag_text, diag_text, octets_alone, octets_text, retrieval_text, record_text};
+ghost use Rattle.zapdu.specs.Text.{quoted_octet, first_set, quoted, quoted_or_dash, ber_text, default_diag_text, diag_text, octets_alone, octets_text, retrieval_text, record_text};
 
 use crate::productions::diagnostic::{DefaultDiag, DiagRec, Info};
 use crate::productions::external::{Content, External};
 use crate::productions::record::{Record, RecordBody};
 use bytes::Bytes;
 use std::alloc::{AllocError, Global};
+use std::simd::prelude::*;
 use zasn::{BuildError, Tagged};
 use zber::text::{put_number, put_oid};
 use zber::{Duplicate, Node, Oid};
@@ -27,10 +28,7 @@ fn put_octet(octet: u8, out: &mut Vec<u8>) -> Result<(), AllocError>
     } else {
         let mut digits = [0; 2];
         match hex::encode_to_slice([octet], &mut digits) {
-            Ok(()) => {
-                out.extend_from_slice(b"\\x")?;
-                out.extend_from_slice(&digits)
-            }
+            Ok(()) => out.extend_from_slice(&[b'\\', b'x', digits[0], digits[1]]),
             Err(_) => unreachable!(),
         }
     }
@@ -46,67 +44,68 @@ pub fn put_hex(alloc: Global, octets: &[u8], out: &mut Vec<u8>) -> Result<(), Al
     out.extend_from_slice(text.as_bytes())
 }
 
-/// Whether the octet stands unchanged in quotes.
-#[tactic(auto, unfolding(crate::specs::Text::quoted_octet))]
-fn is_plain(octet: u8) -> bool
-    ensures { IsTrue result → quoted_octet octet ≡ octet ∷ [] }
-{
-    32 <= octet && octet <= 126 && octet != b'"' && octet != b'\\'
-}
+/// The octets before the text of most records: what it is, its syntax and its database.
+const HEAD: usize = 64;
 
-/// How many octets are tested at once.
+/// How many octets are looked at in one step.
 const AT_ONCE: usize = 16;
 
-/// Whether all of the octets stand unchanged in quotes. It looks at each, so that the compiler can test many at once.
-fn are_plain(octets: &[u8; AT_ONCE]) -> bool
-    ensures { IsTrue result → flat_map quoted_octet octets.now ≡ octets.now }
+/// Returns the place of the lowest bit that is set, or that of the first octet behind a block.
+#[inline(always)]
+fn first_set(mask: u64) -> usize
+    ensures { result ≡ first_set mask }
 {
-    let mut plain = true;
-    for octet in octets {
-        plain &= is_plain(*octet);
+    if mask == 0 {
+        AT_ONCE
+    } else {
+        mask.trailing_zeros() as usize
     }
-    plain
 }
 
-/// Returns a number of octets at the front that stand unchanged in quotes: a multiple of sixteen.
-fn plain_blocks(octets: &[u8]) -> usize
-    ensures within { result ≤ length octets.now }
-    ensures plain { flat_map quoted_octet (take result octets.now) ≡ take result octets.now }
+/// Returns how many octets at the front of a block stand unchanged in quotes.
+#[inline(always)]
+fn plain_in(block: &[u8; AT_ONCE]) -> usize
+    ensures within { result ≤ AT_ONCE }
+    ensures plain { flat_map quoted_octet (take result block.now) ≡ take result block.now }
 {
-    let mut at = 0;
-    while let Some(block) = octets[at..].first_chunk::<AT_ONCE>() {
-        if !are_plain(block) {
-            break;
-        }
-        at += AT_ONCE;
-    }
-    at
+    let octets = u8x16::from_array(*block);
+    let stops = octets.simd_lt(u8x16::splat(b' '))
+        | octets.simd_gt(u8x16::splat(b'~'))
+        | octets.simd_eq(u8x16::splat(b'"'))
+        | octets.simd_eq(u8x16::splat(b'\\'));
+    first_set(stops.to_bitmask())
 }
 
-/// Returns the number of octets before the first that does not stand unchanged in quotes.
-fn plain_front(octets: &[u8]) -> usize
-    ensures within { result ≤ length octets.now }
-    ensures plain { flat_map quoted_octet (take result octets.now) ≡ take result octets.now }
+/// Appends the octets of a block up to and with the first that does not stand unchanged in quotes. Returns how many
+/// these are. All are copied, and then cut: that costs less than to copy some.
+fn put_front(block: &[u8; AT_ONCE], out: &mut Vec<u8>) -> Result<usize, AllocError>
+    ensures whole { IfOk result (λ n.
+        out.new.items ++ flat_map quoted_octet (drop n block.now) ≡ out.old.items ++ flat_map quoted_octet block.now) }
+    ensures some { IfOk result (λ n. (0 < n) × (n ≤ AT_ONCE)) }
 {
-    let begun = plain_blocks(octets);
-    for index in begun..octets.len() {
-        if !is_plain(octets[index]) {
-            return index;
-        }
+    let before = out.len();
+    let front = plain_in(block);
+    out.extend_from_slice(block)?;
+    if front == AT_ONCE {
+        return Ok(front);
     }
-    octets.len()
+    out.truncate(before + front);
+    put_octet(block[front], out)?;
+    Ok(front + 1)
 }
 
-/// Appends the octets up to and with the first that does not stand unchanged in quotes. Returns the others.
+/// Appends some octets, one at least if there are any. Returns the others.
 fn put_run<'a>(octets: &'a [u8], out: &mut Vec<u8>) -> Result<&'a [u8], AllocError>
     ensures whole { IfOk result (λ rest.
         out.new.items ++ flat_map quoted_octet rest.now ≡ out.old.items ++ flat_map quoted_octet octets.now) }
     ensures shorter { IfOk result (λ rest. 0 < length octets.now → length rest.now < length octets.now) }
 {
-    let (plain, others) = octets.split_at(plain_front(octets));
-    out.extend_from_slice(plain)?;
-    match others {
-        [] => Ok(others),
+    if let Some(block) = octets.first_chunk::<AT_ONCE>() {
+        let count = put_front(block, out)?;
+        return Ok(&octets[count..]);
+    }
+    match octets {
+        [] => Ok(octets),
         [octet, rest @ ..] => {
             put_octet(*octet, out)?;
             Ok(rest)
@@ -117,7 +116,8 @@ fn put_run<'a>(octets: &'a [u8], out: &mut Vec<u8>) -> Result<&'a [u8], AllocErr
 fn put_quoted(octets: &[u8], out: &mut Vec<u8>) -> Result<(), AllocError>
     ensures { OnOk result (out.new.items ≡ out.old.items ++ quoted octets.now) }
 {
-    out.reserve(octets.len())?;
+    // a quarter more than the octets, for some that do not stand unchanged
+    out.reserve((octets.len() / 4).saturating_add(octets.len()))?;
     out.extend_from_slice(b"\"")?;
     let mut rest = octets;
     while !rest.is_empty() {
@@ -338,7 +338,7 @@ pub fn print_record(
     ensures ok { OnOk result (out.new.items ≡ out.old.items ++ record_text hex value.now) }
     ensures err { OnErr result (out.new.items ≡ out.old.items) }
 {
-    let mut text = Vec::new(alloc);
+    let mut text = Vec::with_capacity(alloc, HEAD)?;
     put_record(alloc, value, hex, &mut text)?;
     out.extend_from_slice(&text)
 }
