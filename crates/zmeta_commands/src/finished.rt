@@ -11,6 +11,7 @@ use crate::trouble::finished_status;
 use bytes::Bytes;
 use std::alloc::{AllocError, Global};
 use std::io::Write;
+use std::mem::forget;
 use zknow::Names;
 use zknow_stops::Stop;
 use zmarc::Charset;
@@ -197,7 +198,8 @@ pub(crate) fn conclude<'a, 'o: 'a, F: Folder, W: Write, E: Write>(
     match asked {
         Ok(finished) => {
             let ended = finish(alloc, files, &finished, saved, output, errors);
-            drop(finished);
+            // the program ends soon, and gives all memory back at once
+            forget(finished);
             end(ended, errors)
         }
         Err(fault) => end(Err(fault), errors),
