@@ -75,6 +75,9 @@ next_fault place s t over kind at old new limited sound is a put =
     shown (inl q) = absurd (no_fault sound q)
     shown (inr b) = b.1
 
+-- what was taken from the octets: no message yet, a message or a fault
+pub ruleset next_steps = (next_none, next_message, next_fault)
+
 -- ---- all messages
 
 -- the lines of some messages were appended, and those of the octets that are left come behind them
@@ -155,6 +158,9 @@ pub taken_end : (place xs : List ℕ) (s t : Stream) (before after : Bool) (old 
     → HasShown place xs s before old now → NextResult place s t after now then false
     → AreAllShown place xs t after old then
 taken_end = taken_end_by
+
+-- the octets before any message, behind one more, and behind the last
+pub ruleset taken_steps = (taken_none, taken_more, taken_end, taken_less)
 
 -- ---- the end of the octets
 

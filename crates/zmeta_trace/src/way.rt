@@ -97,7 +97,7 @@ fn put_message(
 }
 
 /// Appends the lines of the next message, or of a fault: then it is over. Returns whether there was a message.
-#[tactic(auto, using(crate::proofs::Talking::next_none, crate::proofs::Talking::next_message, crate::proofs::Talking::next_fault))]
+#[tactic(auto, using(crate::proofs::Talking::next_steps))]
 fn put_next(
     alloc: Global,
     place: &Place<'_>,
@@ -127,7 +127,7 @@ fn put_next(
 }
 
 /// Appends the lines of the messages that the octets have, and of the first fault. Returns whether there was a fault.
-#[tactic(auto, using(crate::proofs::Talking::taken_none, crate::proofs::Talking::taken_more, crate::proofs::Talking::taken_end, crate::proofs::Talking::taken_less))]
+#[tactic(auto, using(crate::proofs::Talking::taken_steps))]
 fn put_messages(
     alloc: Global,
     place: &Place<'_>,
