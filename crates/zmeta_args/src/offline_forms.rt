@@ -20,8 +20,7 @@ enough. Prints one list of all that any search brought. Where they brought
 different records for one position of a result set, all of these are shown there
 as a conflict. Regular files may be larger than memory, except with --save or
 --html: they are read again while the list is printed. If one of them changes
-meanwhile, or memory ends, a part of the list is printed, and the status is 3 or
-4.
+meanwhile, or memory ends, the list stops there, and the status is 3 or 4.
 
 --save also makes one saved file of all of them. With --quiet that is all that
 is done: the files may be larger than memory then too, the result may be joined
