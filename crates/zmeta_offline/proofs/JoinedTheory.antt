@@ -51,11 +51,6 @@ module _ (view : View) (octets : List ℕ → Option (List ℕ)) (paths : List (
       → ScanFilesResult octets paths [] Others (Err g) → StreamedJoinResult view octets paths old old r
   scan_refused g f r is of h = rw (is, of) (not_marked g h)
 
-  -- no memory was found before anything was written
-  pub no_memory : (f : Fault) (r : Result Status Fault) → r ≡ Err f → f ≡ Memory
-      → StreamedJoinResult view octets paths old old r
-  no_memory f r is of = rw (is, of) (inl (kept old))
-
 -- ---- behind the first pass
 
 module _ (view : View) (octets : List ℕ → Option (List ℕ)) (path : List ℕ) (others : List (List ℕ)) (old : Device)
