@@ -8,7 +8,7 @@
 # make interop       tries zmeta with other programs that speak Z39.50, if they are installed
 # make hostile       sends zmeta what strangers may send: a million messages and a million replies
 # make page-check    opens pages of zmeta in a browser, if Chromium is installed, and takes their pictures
-# make wrong-bodies  tries the wrong bodies that make test leaves out, in some hours
+# make wrong-bodies  tries all wrong bodies, in some hours: make test tries a few of them
 #
 # make install       puts the program, its man page and its completions below PREFIX, and DESTDIR before that
 # make uninstall     takes them away again
@@ -21,7 +21,7 @@ DESTDIR ?=
 
 program = crates/zmeta/out/zmeta
 version = $(shell sed -n 's/.*const VERSION: &str = "\(.*\)";/\1/p' crates/zmeta_args/src/forms.rt)
-checks = $(shell n=$$(nproc); echo $$((n < 3 ? n : 3)))
+checks = $(shell scripts/machine.py)
 bin = $(DESTDIR)$(PREFIX)/bin
 man = $(DESTDIR)$(PREFIX)/share/man/man1
 bash = $(DESTDIR)$(PREFIX)/share/bash-completion/completions
@@ -33,10 +33,11 @@ fish = $(DESTDIR)$(PREFIX)/share/fish/vendor_completions.d
 demo: program
 	scripts/demo
 
-# As many checks at a time as there are processors, and three at most: each takes 5.5 GB at most, of 24. Left to itself rt ci
-# reserves more, and lets processors idle; and more checks than processors keep the longest chain of them waiting.
+# Left to itself rt ci reserves more memory for each check, and lets processors idle; and more checks than processors keep the
+# longest chain of them waiting.
 test:
 	RT_JOBS=$(checks) scripts/progress rt ci
+	tests/mutants/check --gate
 	python3 tests/program/check.py
 	python3 tests/out-of-memory/check.py
 	python3 tests/mutants/texts.py

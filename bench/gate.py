@@ -1,23 +1,25 @@
 #!/usr/bin/env python3
 """How long the gate takes: a play of its queue, with the seconds of the table "By crate" in docs/GATE.md.
 
+    bench/gate.py                    on 2 and on 4 processors, of the table's machine and of one 2.2 times as slow
     bench/gate.py CORES [CHECKS]     (as many checks at a time as the Makefile has, if left out)
 
-It starts what is ready, proofs and tests before must-fail edits, and of these what has the most lines behind it, as rt
-ci does. Each check has one job, and checks share the cores evenly. With -v it prints what goes on beside what.
+First `rt ci` starts what is ready, proofs and tests before must-fail edits, and of these what has the most lines behind
+it. Then the wrong bodies of tests/mutants/gate are tried, a crate a task, those with most edits first. Each check has
+one job, and checks share the processors evenly. With -v it prints what goes on beside what. The tests of the program,
+some two minutes, are not in it.
 """
 import os
-import re
+import pathlib
 import sys
 
-TOP = os.path.dirname(os.path.dirname(os.path.abspath(__file__)))
-sys.path.insert(0, f"{TOP}/scripts")
+TOP = pathlib.Path(__file__).resolve().parent.parent
+sys.path.insert(0, str(TOP / "scripts"))
 import crates  # noqa: E402
+import measured  # noqa: E402
 
-
-def read(path):
-    with open(f"{TOP}/{path}", encoding="utf-8") as it:
-        return it.read()
+PROOFS = "proof", "tests"
+SLOWEST = 2.2
 
 
 def crates_of_each():
@@ -29,44 +31,35 @@ def crates_of_each():
 def count_lines(name):
     found = 0
     for part in ("src", "specs", "proofs"):
-        for at, _, files in os.walk(f"{TOP}/crates/{name}/{part}"):
-            for file in files:
-                with open(f"{at}/{file}", "rb") as it:
-                    found += it.read().count(b"\n")
+        for at, _, files in os.walk(TOP / "crates" / name / part):
+            found += sum(pathlib.Path(at, file).read_bytes().count(b"\n") for file in files)
     return found
 
 
 def tasks(of):
-    """Each task: what it waits for, its seconds, and its lines; those of a crate after those of the crates below it."""
-    made = {}
-    table = read("docs/GATE.md").partition("## By crate")[2].partition("\n## ")[0]
-    rows = {row[1]: [int(re.sub(r"\D", "", it) or 0) for it in row[2].split("|")]
-            for row in re.finditer(r"^\| `(\w+)` \|(.*)\|$", table, re.M)}
+    """Each task of rt ci: what it waits for, its seconds, and its lines; those of a crate after those of the crates below
+    it. And each task behind it."""
+    made, rows, last = {}, measured.table(), {}
     for name in sorted(of, key=lambda it: len(crates.below([it], of))):
-        proof, tests, edits, _, edit, _ = rows[name]
         waits = [(it, "proof") for it in of[name]]
-        made[name, "proof"] = waits, proof, count_lines(name)
-        if tests:
-            made[name, "tests"] = waits, tests, count_lines(name)
-        if edits:
-            first = [(name, "proof"), *[(name, "tests")] * bool(tests)]
-            # (several begin with a proof that they share, and end with a check of it; one alone is a whole check)
-            made[name, "once more"] = first, proof if edits > 1 else 0, 0
-            for number in range(edits):
-                made[name, f"edit {number}"] = [(name, "once more")], edit if edits > 1 else proof, 0
-            if edits > 1:
-                made[name, "edit at last"] = [(name, f"edit {it}") for it in range(edits)], edit, 0
-    return made
+        made[name, "proof"] = waits, rows[name].seconds("code"), count_lines(name)
+        if rows[name].seconds("tests"):
+            made[name, "tests"] = waits, rows[name].seconds("tests"), count_lines(name)
+        edits = rows[name].seconds("edits")
+        if edits and (TOP / f"crates/{name}/must-fail").is_dir():
+            made[name, "edits"] = [(name, it) for it in PROOFS if (name, it) in made], edits, 0
+        elif edits:
+            last[name, "edits"] = [], edits, len([*(TOP / f"tests/mutants/gate/{name}").glob("*.edit")])
+    return made, last
 
 
-def play(made, cores, checks, is_told):
+def play(made, cores, checks, is_told, now=0.0):
     behind = dict.fromkeys(made, 0)
     for key in reversed([*made]):
         behind[key] += made[key][2]
         for it in made[key][0]:
             behind[it] = max(behind[it], behind[key])
-    is_edit = lambda it: it[1] not in ("proof", "tests")
-    left, running, done, now = sorted(made, key=lambda it: (is_edit(it), -behind[it])), {}, set(), 0.0
+    left, running, done = sorted(made, key=lambda it: (it[1] not in PROOFS, -behind[it])), {}, set()
     while left or running:
         for key in [it for it in left if done.issuperset(made[it][0])][: checks - len(running)]:
             left.remove(key)
@@ -83,17 +76,26 @@ def play(made, cores, checks, is_told):
     return now
 
 
-def main():
-    words = [it for it in sys.argv[1:] if it != "-v"]
-    if not words or not all(it.isdigit() and int(it) for it in words):
+def tell(cores, checks, is_told, times=1.0):
+    made, last = tasks(crates_of_each())
+    whole = sum(it[1] for part in (made, last) for it in part.values())
+    took = play(last, cores, checks, is_told, play(made, cores, checks, is_told))
+    side = f"{cores} cores with {checks} checks at a time" + f", {times} times as slow" * (times != 1)
+    print(f"{took * times / 60:.0f} minutes on {side}; {whole * times / 60:.0f} minutes of a processor")
+
+
+def main(words):
+    given = [it for it in words if it != "-v"]
+    if not all(it.isdigit() and int(it) for it in given) or len(given) > 2:
         sys.exit(__doc__)
-    cores = int(words[0])
-    checks = int(words[1]) if len(words) > 1 else min(cores, 3)
-    made = tasks(crates_of_each())
-    whole = sum(it[1] for it in made.values())
-    took = play(made, cores, checks, "-v" in sys.argv)
-    side = f"{cores} cores with {checks} checks at a time"
-    print(f"{took / 60:.0f} minutes on {side}; {whole / 60:.0f} minutes of a processor")
+    is_told = "-v" in words
+    if given:
+        cores = int(given[0])
+        tell(cores, int(given[1]) if len(given) > 1 else min(cores, 4), is_told)
+        return
+    for cores in (2, 4):
+        for times in (1.0, SLOWEST):
+            tell(cores, cores, is_told, times)
 
 
-main()
+main(sys.argv[1:])

@@ -1,9 +1,9 @@
 #!/usr/bin/env python3
 """Says whether each wrong body still changes a text that stands: each `old:` once in its file.
 
-Those of tests/mutants and tests/program/gives-up are tried only on demand (by the script check beside them), and one of
-crates/*/must-fail that changes nothing fails nothing, so a changed name could leave one that tries nothing. The status
-is 1 where a text is gone or stands twice.
+Most of tests/mutants and those of tests/program/gives-up are tried only on demand (by the script check beside them), and
+one of crates/*/must-fail that changes nothing fails nothing, so a changed name could leave one that tries nothing. The
+status is 1 where a text is gone or stands twice.
 """
 import pathlib
 import sys
@@ -30,7 +30,7 @@ def faults_of(edit, name):
 
 
 def main():
-    left = [(edit, edit.parent.name) for edit in (TOP / "tests/mutants").glob("*/*.edit")]
+    left = [(edit, edit.parent.name) for it in ("*", "gate/*") for edit in (TOP / "tests/mutants").glob(f"{it}/*.edit")]
     tried = [(edit, edit.parts[-3]) for edit in (TOP / "crates").glob("*/must-fail/*.edit")]
     # (the files of these are named from the top)
     built = [(edit, "..") for edit in (TOP / "tests/program/gives-up").glob("*.edit")]

@@ -1,0 +1,34 @@
+#!/usr/bin/env python3
+"""How many checks run at a time on this machine.
+
+    scripts/machine.py      prints the number
+
+It is the number of processors, four at most, and three at most where less than 21 GB of memory are free: the four
+largest checks take 19.3 GB, the three largest 15.3. RT_JOBS sets how many processors there are.
+"""
+
+import os
+import re
+
+GB = 1_000_000_000
+FREE_FOR_FOUR = 21 * GB
+
+
+def free_memory():
+    with open("/proc/meminfo", encoding="ascii") as it:
+        return int(re.search(r"MemAvailable:\s+(\d+) kB", it.read())[1]) * 1024
+
+
+def processors():
+    """How many processors there are to use."""
+    given = os.environ.get("RT_JOBS", "")
+    return int(given) if given.isdigit() and int(given) else len(os.sched_getaffinity(0))
+
+
+def checks():
+    """How many checks run at a time."""
+    return min(processors(), 4 if free_memory() >= FREE_FOR_FOUR else 3)
+
+
+if __name__ == "__main__":
+    print(checks())
