@@ -7,7 +7,7 @@ use crate::oid::Oid;
 use std::alloc::{AllocError, Global};
 
 /// How the octets of a record are printed.
-#[derive(Clone, Copy, Debug, PartialEq, Eq, Drop)]
+#[derive(Clone, Copy, PartialEq, Eq, Drop)]
 pub enum Mode {
     /// In quotes.
     Text,

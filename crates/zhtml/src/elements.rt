@@ -3,7 +3,7 @@ ghost use Rattle.std.specs.Prelude.{◌≡◌};
 ghost use Rattle.zhtml.specs.Names.{element_name, void_name};
 
 /// An element that has a start tag and an end tag.
-#[derive(Clone, Copy, Debug, PartialEq, Eq)]
+#[derive(Clone, Copy, PartialEq, Eq)]
 pub enum Element {
     /// The document.
     Html,
@@ -66,7 +66,7 @@ pub enum Element {
 }
 
 /// An element that has a start tag alone, and no content (HTML Standard, 13.1.2: void elements).
-#[derive(Clone, Copy, Debug, PartialEq, Eq)]
+#[derive(Clone, Copy, PartialEq, Eq)]
 pub enum VoidElement {
     /// What a program is told of the document.
     Meta,

@@ -13,7 +13,7 @@ use zapdu::Record;
 use zknow::{Knowledge, Known, Names, RowKey};
 
 /// How a record differs between two saved files.
-#[derive(Clone, Copy, Debug, PartialEq, Eq)]
+#[derive(Clone, Copy, PartialEq, Eq)]
 pub enum ChangeKind {
     /// The later file has it. The earlier one has neither its contents nor its control number.
     New,

@@ -9,7 +9,7 @@ use std::alloc::Global;
 use zknow::Fact;
 
 /// Why octets do not begin with the element of a fact.
-#[derive(Clone, Copy, Debug, PartialEq, Eq, Drop)]
+#[derive(Clone, Copy, PartialEq, Eq, Drop)]
 pub enum FirstError {
     /// They begin with no whole element. With more octets behind them they may.
     Unfinished,

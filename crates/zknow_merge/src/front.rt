@@ -16,7 +16,7 @@ pub(crate) const LONGEST: u32 = 4_194_304;
 const WINDOW: usize = 256;
 
 /// Why no value was taken from the octets.
-#[derive(Clone, Copy, Debug, PartialEq, Eq, Drop)]
+#[derive(Clone, Copy, PartialEq, Eq, Drop)]
 pub(crate) enum FrontError {
     /// Whatever comes after the octets, they do not begin with an element of such a value.
     NoValue,

@@ -6,7 +6,7 @@ use crate::step::Step;
 use zknow::LoadError;
 
 /// Why there are sources only for the inputs before one that is refused, or up to it.
-#[derive(Clone, Copy, Debug, PartialEq, Eq, Drop)]
+#[derive(Clone, Copy, PartialEq, Eq, Drop)]
 pub(crate) enum Refusal {
     /// The input behind those of the sources has this fault.
     Fault(LoadError),

@@ -15,7 +15,7 @@ use std::alloc::{AllocError, Global};
 use zknow::LoadError;
 
 /// The kind of a fact.
-#[derive(Clone, Copy, Debug, PartialEq, Eq, Drop)]
+#[derive(Clone, Copy, PartialEq, Eq, Drop)]
 pub enum FactKind {
     Count,
     Failed,
@@ -24,7 +24,7 @@ pub enum FactKind {
 }
 
 /// A fact of a saved file, without its record or diagnostic, and where its element stands.
-#[derive(Clone, Copy, Debug, PartialEq, Eq, Drop)]
+#[derive(Clone, Copy, PartialEq, Eq, Drop)]
 pub struct FactPlace {
     pub kind: FactKind,
     pub target: u32,
@@ -41,7 +41,7 @@ pub struct FactPlace {
 const MOST: u64 = u64::MAX - LONGEST as u64;
 
 /// What a scan needs next, or what it found.
-#[derive(Clone, Copy, Debug, PartialEq, Eq, Drop)]
+#[derive(Clone, Copy, PartialEq, Eq, Drop)]
 pub enum ScanStep {
     /// Octets are needed: call `feed` with the next piece of the file, or `end` at its end.
     Need,

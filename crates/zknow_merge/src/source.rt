@@ -16,7 +16,7 @@ use std::alloc::{AllocError, Global};
 use zknow::{Fact, LoadError};
 
 /// What a source did to read an element.
-#[derive(Clone, Copy, Debug, PartialEq, Eq, Drop)]
+#[derive(Clone, Copy, PartialEq, Eq, Drop)]
 pub(crate) enum Read {
     /// It needs octets.
     Need,

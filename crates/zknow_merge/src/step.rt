@@ -2,7 +2,7 @@
 use zknow::LoadError;
 
 /// What a merge needs next, or how it ended. Inputs have numbers from 0.
-#[derive(Clone, Copy, Debug, PartialEq, Eq, Drop)]
+#[derive(Clone, Copy, PartialEq, Eq, Drop)]
 pub enum Step {
     /// Octets of this input are needed: call `feed` with the next piece of it, or `end` at its end.
     Need(usize),

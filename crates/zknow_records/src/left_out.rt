@@ -4,7 +4,7 @@ ghost use Rattle.zknow_records.specs.Parts.{left_sum, HasTooMany};
 
 /// Counts of what was left out of the octets written. A position that is left out is counted once, and its records are
 /// not counted.
-#[derive(Clone, Copy, Debug, PartialEq, Eq, Default)]
+#[derive(Clone, Copy, PartialEq, Eq, Default)]
 pub struct LeftOut {
     /// How many positions have several records, whatever their syntaxes; 0 if conflicts were asked for.
     pub conflicts: u64,

@@ -8,14 +8,14 @@ use std::collections::BTreeMap;
 use std::marker::Model;
 
 /// What orders runs that are read: the position of the next record, and then the order in which they were put.
-#[derive(Clone, Copy, Debug, PartialEq, Eq, PartialOrd, Ord, Drop)]
+#[derive(Clone, Copy, PartialEq, Eq, PartialOrd, Ord, Drop)]
 struct RunKey {
     position: i64,
     count: u64,
 }
 
 /// A run that is read.
-#[derive(Clone, Copy, Debug, PartialEq, Eq, Drop)]
+#[derive(Clone, Copy, PartialEq, Eq, Drop)]
 pub struct OpenRun {
     /// The number of the run, of whatever is left of it.
     pub number: usize,

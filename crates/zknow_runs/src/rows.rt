@@ -31,7 +31,7 @@ pub struct Taking<'t> {
 }
 
 /// The run of which a record is read next.
-#[derive(Clone, Copy, Debug, PartialEq, Eq, Drop)]
+#[derive(Clone, Copy, PartialEq, Eq, Drop)]
 struct Next {
     number: usize,
     /// What is left of the run.
@@ -41,7 +41,7 @@ struct Next {
 }
 
 /// Octets of a file that are wanted: from one offset on, before another.
-#[derive(Clone, Copy, Debug, PartialEq, Eq, Drop)]
+#[derive(Clone, Copy, PartialEq, Eq, Drop)]
 pub struct Wanted {
     /// The number of the run.
     pub number: usize,
@@ -52,7 +52,7 @@ pub struct Wanted {
 }
 
 /// What came of octets that were read.
-#[derive(Clone, Copy, Debug, PartialEq, Eq, Drop)]
+#[derive(Clone, Copy, PartialEq, Eq, Drop)]
 pub enum ReadStep {
     /// They begin with a record, which was taken.
     Taken,

@@ -6,7 +6,7 @@ ghost use Rattle.zknow_runs.specs.declared.run.Run.{Run};
 use std::alloc::{AllocError, Global};
 
 /// Records that stand one after the other in one saved file, and whose positions do not fall.
-#[derive(Clone, Copy, Debug, PartialEq, Eq, Drop)]
+#[derive(Clone, Copy, PartialEq, Eq, Drop)]
 pub struct Run {
     /// The position of the first of them.
     pub position: i64,
@@ -19,7 +19,7 @@ pub struct Run {
 }
 
 /// The run that the next record may go on with.
-#[derive(Clone, Copy, Debug, PartialEq, Eq, Drop)]
+#[derive(Clone, Copy, PartialEq, Eq, Drop)]
 struct OpenEnd {
     run: Run,
     /// Its last record.

@@ -6,7 +6,7 @@ ghost use Rattle.zknow_stops.specs.Details.{in_seconds, detail_words, is_unreach
 use std::alloc::{AllocError, Global};
 
 /// What can be told of a connection that stopped. The first six are of a catalogue that was not reached.
-#[derive(Clone, Copy, Debug, PartialEq, Eq)]
+#[derive(Clone, Copy, PartialEq, Eq)]
 pub enum Detail {
     /// The catalogue's address has no port.
     NoPort,

@@ -2,7 +2,7 @@
 use crate::detail::Detail;
 
 /// Why the connection to a catalogue stopped before its work was done.
-#[derive(Clone, Copy, Debug, PartialEq, Eq)]
+#[derive(Clone, Copy, PartialEq, Eq)]
 pub struct Stop {
     /// The name of the reason, as programs read it: `Connect`, `Read`, `Ended`, or the name of a fault.
     pub reason: &'static str,

@@ -25,7 +25,7 @@ use zopac::{Holding, OpacRecord, put_holding};
 const NAME_COLUMNS: usize = 24;
 
 /// The columns of positions and of names, over all rows.
-#[derive(Clone, Copy, Debug, PartialEq, Eq, Default)]
+#[derive(Clone, Copy, PartialEq, Eq, Default)]
 pub struct Widths {
     /// The columns of positions.
     pub position: usize,

@@ -16,7 +16,7 @@ use zmarc::{Charset, Format, format_of, gather_lines, put_text, read_characters}
 use zopac::OpacRecord;
 
 /// How much the view shows of a record.
-#[derive(Clone, Copy, Debug, PartialEq, Eq)]
+#[derive(Clone, Copy, PartialEq, Eq)]
 pub enum Extent {
     /// Its year and its title.
     Title,

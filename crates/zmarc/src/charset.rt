@@ -12,7 +12,7 @@ use std::alloc::{AllocError, Global};
 use unicode_normalization::slice::extend_nfc;
 
 /// Sets of characters that records are written in.
-#[derive(Clone, Copy, Debug, PartialEq, Eq)]
+#[derive(Clone, Copy, PartialEq, Eq)]
 pub enum Charset {
     /// UTF-8.
     Utf8,

@@ -8,7 +8,7 @@ ghost use Rattle.zmarc.specs.Isbns.{isbn_tag};
 use crate::charset::Charset;
 
 /// Formats of bibliographic records.
-#[derive(Clone, Copy, Debug, PartialEq, Eq)]
+#[derive(Clone, Copy, PartialEq, Eq)]
 pub enum Format {
     /// MARC 21, and what is of its family.
     Marc21,
@@ -17,7 +17,7 @@ pub enum Format {
 }
 
 /// How the octets of a record are read.
-#[derive(Clone, Copy, Debug, PartialEq, Eq)]
+#[derive(Clone, Copy, PartialEq, Eq)]
 pub struct Reading {
     /// Which tags and codes the record has.
     pub format: Format,

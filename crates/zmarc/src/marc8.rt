@@ -48,7 +48,7 @@ fn map_ansel(octet: u8) -> char
 }
 
 /// Where octets of MARC-8 stand among escape sequences.
-#[derive(Clone, Copy, Debug, PartialEq, Eq)]
+#[derive(Clone, Copy, PartialEq, Eq)]
 enum Mode {
     /// In ASCII and ANSEL.
     Plain,
@@ -61,7 +61,7 @@ enum Mode {
 }
 
 /// What an octet of MARC-8 means.
-#[derive(Clone, Copy, Debug, PartialEq, Eq)]
+#[derive(Clone, Copy, PartialEq, Eq)]
 enum Step {
     /// No character, and what follows stands so.
     Nothing(Mode),

@@ -12,7 +12,7 @@ use clap::{ArgMatches, Command, Error};
 use std::alloc::{AllocError, Global};
 
 /// What a command prints of what is known.
-#[derive(Clone, Copy, Debug, PartialEq, Eq, Drop)]
+#[derive(Clone, Copy, PartialEq, Eq, Drop)]
 pub enum View<'a> {
     /// The list, with the octets of records in quotes.
     Text,
@@ -30,7 +30,7 @@ pub enum View<'a> {
 
 /// What is put to every question of a world file, in place of what its line says. What is not given stays as the
 /// line says.
-#[derive(Debug, Drop)]
+#[derive(Drop)]
 pub struct SearchOptions<'a> {
     /// A query in the prefix notation.
     pub query: Option<&'a str>,
@@ -57,7 +57,7 @@ pub struct SearchOptions<'a> {
 }
 
 /// How long catalogues are waited for, in seconds, and over which addresses they are asked.
-#[derive(Clone, Copy, Debug, PartialEq, Eq, Drop)]
+#[derive(Clone, Copy, PartialEq, Eq, Drop)]
 pub struct LimitOptions {
     /// How long connecting to one may take.
     pub connect: Option<u32>,
@@ -72,7 +72,7 @@ pub struct LimitOptions {
 }
 
 /// A command of the program, with its arguments.
-#[derive(Debug, Drop)]
+#[derive(Drop)]
 pub enum Arguments<'a> {
     /// Print the messages whose hexadecimal digits standard input has.
     Show,
@@ -169,7 +169,7 @@ pub enum Arguments<'a> {
 }
 
 /// A command line: a command with its arguments, and what is common to all commands.
-#[derive(Debug, Drop)]
+#[derive(Drop)]
 pub struct CommandLine<'a> {
     /// The command.
     pub command: Arguments<'a>,

@@ -23,7 +23,7 @@ use zmeta_devices::output::Output;
 use zmeta_world::world::{World, WorldError, read_world};
 
 /// Why a file is not converted.
-#[derive(Debug, Drop)]
+#[derive(Drop)]
 pub enum ConversionFault<'a> {
     /// The file is not read, or its catalogues cannot be asked.
     Union(UnionFault<'a>),

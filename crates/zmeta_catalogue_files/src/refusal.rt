@@ -15,7 +15,7 @@ use zmeta_devices::fault::{Fault, Status};
 use zmeta_devices::output::Output;
 
 /// Why the catalogues of a file are not asked.
-#[derive(Debug, Drop)]
+#[derive(Drop)]
 pub enum UnionFault<'a> {
     /// The file cannot be read, an option of the search is refused, or no memory was found.
     Fault(Fault<'a>),

@@ -16,7 +16,7 @@ use zmeta_devices::files::Folder;
 use zmeta_world::world::World;
 
 /// How long a catalogue is waited for, in seconds, 1 to 3,600. `None` where its file does not say.
-#[derive(Clone, Copy, Debug, PartialEq, Eq)]
+#[derive(Clone, Copy, PartialEq, Eq)]
 pub struct CatalogueWaits {
     /// How long connecting may take.
     pub connect: Option<u32>,

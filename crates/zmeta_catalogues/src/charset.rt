@@ -8,7 +8,7 @@ use bytes::Bytes;
 use std::alloc::{AllocError, Global};
 
 /// The character set of a catalogue: of the queries to it, and of its records.
-#[derive(Clone, Copy, Debug, PartialEq, Eq)]
+#[derive(Clone, Copy, PartialEq, Eq)]
 pub enum Charset {
     /// UTF-8.
     Utf8,

@@ -14,7 +14,7 @@ use std::str::from_utf8;
 const MOST_SHOWN: usize = 120;
 
 /// Why a file of catalogues is refused. Lines and columns count from 1; line 0 is one that was not found.
-#[derive(Debug, Drop)]
+#[derive(Drop)]
 pub enum CatalogueError {
     /// The file begins with a byte order mark.
     ByteOrderMark,

@@ -8,7 +8,7 @@ use std::alloc::{AllocError, AllocFailed};
 use zquery::PqfErrorKind;
 
 /// A setting of a catalogue, or one of its terms.
-#[derive(Clone, Copy, Debug, PartialEq, Eq)]
+#[derive(Clone, Copy, PartialEq, Eq)]
 pub enum Key {
     /// Where the catalogue is.
     Address,
@@ -80,7 +80,7 @@ impl Key {
 }
 
 /// How a setting is at fault.
-#[derive(Clone, Copy, Debug, PartialEq, Eq)]
+#[derive(Clone, Copy, PartialEq, Eq)]
 pub enum FaultKind {
     /// It has to be there, and is not.
     Missing,
@@ -101,7 +101,7 @@ pub enum FaultKind {
 }
 
 /// A setting at fault.
-#[derive(Clone, Copy, Debug, PartialEq, Eq)]
+#[derive(Clone, Copy, PartialEq, Eq)]
 pub struct SettingFault {
     /// The setting.
     pub key: Key,
@@ -110,7 +110,7 @@ pub struct SettingFault {
 }
 
 /// Why the reading of a catalogue stops.
-#[derive(Clone, Copy, Debug, PartialEq, Eq)]
+#[derive(Clone, Copy, PartialEq, Eq)]
 pub enum Stop {
     /// A setting is at fault.
     Fault(SettingFault),

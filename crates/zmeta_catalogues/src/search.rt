@@ -10,7 +10,7 @@ use std::alloc::{AllocError, AllocFailed};
 use zquery::PqfErrorKind;
 
 /// What a term is looked for in.
-#[derive(Clone, Copy, Debug, PartialEq, Eq)]
+#[derive(Clone, Copy, PartialEq, Eq)]
 pub enum Access {
     /// The title.
     Title,
@@ -77,7 +77,7 @@ pub struct CatalogueSearch<'a> {
 }
 
 /// Why a search cannot be put to the catalogues.
-#[derive(Debug, Drop)]
+#[derive(Drop)]
 pub enum AskError {
     /// There is no search, and this catalogue has no query of its own.
     NoSearch {

@@ -53,7 +53,7 @@ const OF_TERMS: [Key; 7] = [
 ];
 
 /// A kind of table in a file of catalogues.
-#[derive(Clone, Copy, Debug, PartialEq, Eq)]
+#[derive(Clone, Copy, PartialEq, Eq)]
 pub enum TableKind {
     /// The file itself: its settings stand for all catalogues.
     Top,

@@ -24,7 +24,7 @@ use zplan::Range;
 use zquery::{PrintError, Query};
 
 /// Why a question has no table in a file of catalogues.
-#[derive(Clone, Copy, Debug, PartialEq, Eq)]
+#[derive(Clone, Copy, PartialEq, Eq)]
 pub enum NoTable {
     /// It goes to a target in memory.
     Target,
@@ -41,7 +41,7 @@ pub enum NoTable {
 }
 
 /// Why a world has no file of catalogues.
-#[derive(Debug, Drop)]
+#[derive(Drop)]
 pub enum CatalogueFileError {
     /// The question of this name, on this line of the world file, has no table, for this reason.
     NoTable {

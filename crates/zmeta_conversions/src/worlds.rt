@@ -16,7 +16,7 @@ use zmeta_world::world::{AskedQuestion, NamedHost, World};
 use zquery::{PrintError, Query, print_pqf};
 
 /// Why a world file cannot say a host or a question.
-#[derive(Clone, Copy, Debug, PartialEq, Eq)]
+#[derive(Clone, Copy, PartialEq, Eq)]
 pub enum Unsaid {
     /// The question goes to several databases, or to none.
     Databases,
@@ -29,7 +29,7 @@ pub enum Unsaid {
 }
 
 /// Why a world has no world file.
-#[derive(Debug, Drop)]
+#[derive(Drop)]
 pub enum WorldFileError {
     /// The host or question of this name cannot be said, for this reason.
     Unsaid { name: Bytes, reason: Unsaid },

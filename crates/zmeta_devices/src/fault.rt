@@ -18,7 +18,7 @@ use zquery::{BuildError, PqfError, PqfErrorKind, PrintError};
 
 /// How a command ends. If several apply, `Memory` comes before `Refused`, and `Refused` before `Failed`. With wrong
 /// arguments no command runs, so `Arguments` stands alone.
-#[derive(Clone, Copy, Debug, PartialEq, Eq)]
+#[derive(Clone, Copy, PartialEq, Eq)]
 pub enum Status {
     /// The command did all of its work.
     Done,
@@ -61,7 +61,7 @@ impl Status {
 }
 
 /// Why a command stopped before its end.
-#[derive(Clone, Copy, Debug)]
+#[derive(Clone, Copy)]
 pub enum Fault<'a> {
     /// The file, or the standard stream for `-`, could not be read.
     Read(&'a str),

@@ -8,7 +8,7 @@ ghost use Rattle.zmeta_explain.specs.Syntaxes.{marc21_word, unimarc_word, xml_wo
 use crate::sentences::{Insert, Sentence};
 
 /// A record syntax that has a name.
-#[derive(Clone, Copy, Debug, PartialEq, Eq)]
+#[derive(Clone, Copy, PartialEq, Eq)]
 pub(crate) enum NamedSyntax {
     Marc21,
     Unimarc,

@@ -25,7 +25,7 @@ use zmeta_devices::files::Folder;
 use zmeta_devices::output::Output;
 
 /// A view that is written in parts.
-#[derive(Clone, Copy, Debug, PartialEq, Eq)]
+#[derive(Clone, Copy, PartialEq, Eq)]
 pub(crate) enum PartedView {
     /// The list.
     List(Mode),

@@ -79,7 +79,7 @@ pub(crate) struct Marked {
 }
 
 /// What a scan came to.
-#[derive(Clone, Copy, Debug, PartialEq, Eq, Drop)]
+#[derive(Clone, Copy, PartialEq, Eq, Drop)]
 enum Reached {
     Names,
     Fact(FactPlace),

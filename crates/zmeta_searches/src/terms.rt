@@ -5,7 +5,7 @@ ghost use Rattle.std.specs.List.{list_all};
 ghost use Rattle.zmeta_searches.specs.Terms.{use_of, relation_of, more_of, may_be_cut, ends_starred, is_cut, is_hyphen, uncut, is_blank};
 
 /// What a term is looked for in.
-#[derive(Clone, Copy, Debug, PartialEq, Eq)]
+#[derive(Clone, Copy, PartialEq, Eq)]
 pub enum Access {
     /// The title (Use 4 of bib-1).
     Title,
@@ -28,7 +28,7 @@ pub enum Access {
 }
 
 /// A term of a search.
-#[derive(Clone, Copy, Debug)]
+#[derive(Clone, Copy)]
 pub struct SearchTerm<'a> {
     /// What it is looked for in.
     pub access: Access,

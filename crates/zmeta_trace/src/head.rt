@@ -11,7 +11,7 @@ use zoom_asking::Manner;
 use zoom_trace::{TraceEntry, TraceError};
 
 /// How hosts are talked with, from when on, and for how long. Times are nanoseconds.
-#[derive(Clone, Copy, Debug, PartialEq, Eq)]
+#[derive(Clone, Copy, PartialEq, Eq)]
 pub struct Begun {
     /// When the search began, by the clock of the trace.
     pub start: u64,

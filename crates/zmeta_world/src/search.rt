@@ -32,7 +32,7 @@ pub struct Search<'a> {
 }
 
 /// Why a search cannot be put to the questions.
-#[derive(Clone, Copy, Debug, PartialEq, Eq)]
+#[derive(Clone, Copy, PartialEq, Eq)]
 pub enum SearchError {
     /// The text is no query, for this reason at this octet of it.
     Query { kind: PqfErrorKind, at: usize },

@@ -47,7 +47,7 @@ pub struct NamedHost {
 }
 
 /// The end that a question goes to: an index into the targets or into the hosts of the world.
-#[derive(Clone, Copy, Debug, PartialEq, Eq)]
+#[derive(Clone, Copy, PartialEq, Eq)]
 pub enum End {
     /// A target in memory, by its index in `targets`.
     Target(usize),
@@ -86,7 +86,7 @@ pub struct World {
 }
 
 /// Why a world file is refused, or cannot be planned as the run that was asked for.
-#[derive(Clone, Copy, Debug, PartialEq, Eq)]
+#[derive(Clone, Copy, PartialEq, Eq)]
 pub enum WorldError {
     /// The first line at fault, from 1.
     Refused { line: u64 },

@@ -5,7 +5,7 @@ ghost use Rattle.zoom_asking.specs.Changes.{kind_of, change_of, lost_of};
 use zoom_clock::{Ending, Stage};
 
 /// What kind of stage a connection was at.
-#[derive(Clone, Copy, Debug, PartialEq, Eq)]
+#[derive(Clone, Copy, PartialEq, Eq)]
 pub(crate) enum Kind {
     /// It has not connected, and is not over.
     Connecting,
@@ -15,7 +15,7 @@ pub(crate) enum Kind {
 }
 
 /// What a signal changed.
-#[derive(Clone, Copy, Debug, PartialEq, Eq)]
+#[derive(Clone, Copy, PartialEq, Eq)]
 pub(crate) enum Change {
     /// Nothing that the connection's calls depend on.
     Same,

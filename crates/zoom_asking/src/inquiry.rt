@@ -9,7 +9,7 @@ use zoom_clock::{Limits, Plan, Signal};
 pub(crate) const MOST_PIECES: u32 = 1_000_000;
 
 /// A host to ask, and how long to wait for it. Times are nanoseconds.
-#[derive(Clone, Copy, Debug, PartialEq, Eq)]
+#[derive(Clone, Copy, PartialEq, Eq)]
 pub struct AskedHost {
     /// How long it may take to connect, from when its name was resolved.
     pub connect: u64,
@@ -18,7 +18,7 @@ pub struct AskedHost {
 }
 
 /// How hosts are talked with.
-#[derive(Clone, Copy, Debug, PartialEq, Eq)]
+#[derive(Clone, Copy, PartialEq, Eq)]
 pub enum Manner {
     /// All at once.
     AtOnce,
@@ -27,7 +27,7 @@ pub enum Manner {
 }
 
 /// What happened on a connection. `Asking::octets` reports octets that came.
-#[derive(Clone, Copy, Debug, PartialEq, Eq)]
+#[derive(Clone, Copy, PartialEq, Eq)]
 pub enum Report {
     /// The name of the host was resolved to this many addresses. With none it cannot be reached.
     Resolved(usize),

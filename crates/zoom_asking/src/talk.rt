@@ -9,7 +9,7 @@ use zoom_pool::laws::one_transcript;
 use zoom_pool::{Meta, Reason, State, Step, TakeError};
 
 /// The result of taking a message.
-#[derive(Clone, Copy, Debug, PartialEq, Eq)]
+#[derive(Clone, Copy, PartialEq, Eq)]
 pub(crate) enum Receipt {
     /// A message was taken and accepted.
     Message,

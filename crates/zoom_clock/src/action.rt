@@ -6,7 +6,7 @@ use std::alloc::AllocError;
 use std::collections::VecDeque;
 
 /// What is to be done for a connection.
-#[derive(Clone, Copy, Debug, PartialEq, Eq)]
+#[derive(Clone, Copy, PartialEq, Eq)]
 pub enum Task {
     /// Begin to connect to the address of this number. The attempt has the same number.
     Connect(usize),
@@ -19,7 +19,7 @@ pub enum Task {
 }
 
 /// A task for one connection.
-#[derive(Clone, Copy, Debug, PartialEq, Eq)]
+#[derive(Clone, Copy, PartialEq, Eq)]
 pub struct Action {
     /// The number of the connection.
     pub c: u32,

@@ -3,7 +3,7 @@ ghost use Rattle.std.specs.Prelude.{◌≡◌, ℕ, ◌+◌, min, nat_le};
 ghost use Rattle.zoom_clock.specs.Times.{IsTime, total_end};
 
 /// How long to wait for a connection, in nanoseconds.
-#[derive(Clone, Copy, Debug, PartialEq, Eq)]
+#[derive(Clone, Copy, PartialEq, Eq)]
 pub struct Limits {
     /// From when its name was resolved until it has connected.
     pub connect: u64,

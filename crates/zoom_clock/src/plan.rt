@@ -6,7 +6,7 @@ use crate::course::Course;
 use crate::limits::Limits;
 
 /// How one connection is to be asked.
-#[derive(Clone, Copy, Debug, PartialEq, Eq)]
+#[derive(Clone, Copy, PartialEq, Eq)]
 pub struct Plan {
     pub limits: Limits,
     /// Whether it is asked.

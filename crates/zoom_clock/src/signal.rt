@@ -1,7 +1,7 @@
 //! What is told of a connection, and how one ends.
 
 /// What is told of a connection, at a time.
-#[derive(Clone, Copy, Debug, PartialEq, Eq)]
+#[derive(Clone, Copy, PartialEq, Eq)]
 pub enum Signal {
     /// The name of the host was resolved to this many addresses. With none it cannot be reached.
     Resolved(usize),
@@ -30,7 +30,7 @@ pub enum Signal {
 }
 
 /// How a connection stands after octets that came.
-#[derive(Clone, Copy, Debug, PartialEq, Eq)]
+#[derive(Clone, Copy, PartialEq, Eq)]
 pub enum Condition {
     /// It goes on.
     Going,
@@ -41,7 +41,7 @@ pub enum Condition {
 }
 
 /// How a connection has ended.
-#[derive(Clone, Copy, Debug, PartialEq, Eq)]
+#[derive(Clone, Copy, PartialEq, Eq)]
 pub enum Ending {
     /// It could not be reached, or not in time, or its name was not resolved in time.
     Connect,

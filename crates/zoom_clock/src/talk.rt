@@ -11,7 +11,7 @@ use crate::signal::{Condition, Ending};
 pub(crate) const CLOSE_PATIENCE: u64 = 2_000_000_000;
 
 /// A connection that is talked with.
-#[derive(Clone, Copy, Debug, PartialEq, Eq)]
+#[derive(Clone, Copy, PartialEq, Eq)]
 pub struct Talk {
     /// The number of the attempt that connected.
     pub socket: usize,

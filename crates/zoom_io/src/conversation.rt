@@ -14,6 +14,7 @@ use crate::device::{Sink, Source};
 use crate::outgoing::PushError;
 use crate::talk_steps::{Receipt, send_and_take};
 use std::alloc::{AllocError, Global};
+use std::fmt::{self, Display};
 use thiserror::Error;
 use zoom_pool::laws::{one_input, one_transcript};
 use zoom_pool::{Meta, Reason, State, TakeError};
@@ -26,20 +27,34 @@ const PIECE: usize = 4096;
 #[derive(Clone, Copy, Debug, PartialEq, Eq, Error)]
 pub enum TalkError {
     /// A call of the reader failed.
-    #[error("the reader failed")]
     Read,
     /// A call of the writer failed. How many of the octets handed out last were written is not known.
-    #[error("the writer failed")]
     Write,
     /// The input ended after a whole message, and the connection was not Closing.
-    #[error("the input ended")]
     Ended,
     /// The limit on reads was reached before the connection ended.
-    #[error("too many reads")]
     Turns,
     /// No memory was found.
-    #[error("out of memory")]
     Memory,
+}
+
+impl TalkError {
+    /// Returns the fault in words.
+    fn text(self) -> &'static str {
+        match self {
+            TalkError::Read => "the reader failed",
+            TalkError::Write => "the writer failed",
+            TalkError::Ended => "the input ended",
+            TalkError::Turns => "too many reads",
+            TalkError::Memory => "out of memory",
+        }
+    }
+}
+
+impl Display for TalkError {
+    fn fmt<W: fmt::Write>(&self, f: &mut fmt::Formatter<W>) -> fmt::Result {
+        f.write_str(self.text())
+    }
 }
 
 impl From<AllocError> for TalkError {

@@ -6,6 +6,7 @@ ghost use Rattle.zoom_io.specs.Answering.{AfterReleaseAll, AfterWriteReplies, Af
 use crate::device::{Sink, Source};
 use crate::outgoing::write_all;
 use std::alloc::{AllocError, Global};
+use std::fmt::{self, Display};
 use thiserror::Error;
 use zoom_pool::Host;
 
@@ -16,17 +17,31 @@ const PIECE: usize = 4096;
 #[derive(Clone, Copy, Debug, PartialEq, Eq, Error)]
 pub enum AnswerError {
     /// A call of the reader failed.
-    #[error("the reader failed")]
     Read,
     /// A call of the writer failed. How many octets of the replies were written is not known.
-    #[error("the writer failed")]
     Write,
     /// The limit on reads was reached before the serving end was done.
-    #[error("too many reads")]
     Turns,
     /// No memory was found.
-    #[error("out of memory")]
     Memory,
+}
+
+impl AnswerError {
+    /// Returns the fault in words.
+    fn text(self) -> &'static str {
+        match self {
+            AnswerError::Read => "the reader failed",
+            AnswerError::Write => "the writer failed",
+            AnswerError::Turns => "too many reads",
+            AnswerError::Memory => "out of memory",
+        }
+    }
+}
+
+impl Display for AnswerError {
+    fn fmt<W: fmt::Write>(&self, f: &mut fmt::Formatter<W>) -> fmt::Result {
+        f.write_str(self.text())
+    }
 }
 
 impl From<AllocError> for AnswerError {

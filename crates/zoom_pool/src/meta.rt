@@ -27,7 +27,7 @@ use zorigin::laws::sent_requests;
 const MOST_LOOKS: u32 = 70;
 
 /// What looking for the next call did.
-#[derive(Clone, Copy, Debug, PartialEq, Eq)]
+#[derive(Clone, Copy, PartialEq, Eq)]
 pub(crate) enum Advance {
     /// The call was made, and the origin admitted it.
     Admitted,

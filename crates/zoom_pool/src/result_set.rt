@@ -17,7 +17,7 @@ use zknow::Known;
 use zorigin::{CallRefused, Range};
 
 /// A result set of one connection (Z39.50-2003, 3.1.5). It is a name: creating one asks for nothing.
-#[derive(Clone, Copy, Debug, PartialEq, Eq)]
+#[derive(Clone, Copy, PartialEq, Eq)]
 pub struct ResultSet {
     /// The number of the connection. `present` and `present_ranges` require it to be below the pool's
     /// `connections()`.

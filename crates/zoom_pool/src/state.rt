@@ -8,7 +8,7 @@ use zber::FaultKind;
 use zorigin::Refused;
 
 /// Why a connection failed.
-#[derive(Clone, Copy, Debug, PartialEq, Eq)]
+#[derive(Clone, Copy, PartialEq, Eq)]
 pub enum Reason {
     /// Its octets showed this fault (X.690, 8.1), `at` octets after the first of a message. If the input ended
     /// within a message, `at` is the number of that message's octets.
@@ -52,7 +52,7 @@ impl Reason {
 }
 
 /// The state of a connection (Z39.50-2003, 3.2 and 3.4).
-#[derive(Clone, Copy, Debug, PartialEq, Eq)]
+#[derive(Clone, Copy, PartialEq, Eq)]
 pub enum State {
     /// Init was not called.
     Fresh,

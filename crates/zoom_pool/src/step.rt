@@ -11,7 +11,7 @@ use zber::FaultKind;
 use zorigin::{Refused, Taken};
 
 /// What a take did.
-#[derive(Clone, Copy, Debug, PartialEq, Eq)]
+#[derive(Clone, Copy, PartialEq, Eq)]
 pub enum Step {
     /// No whole message has come yet.
     Nothing,

@@ -1,7 +1,7 @@
 //! The moves of a world in memory.
 
 /// One step of a world in memory. `c` is the number of a connection and of its target.
-#[derive(Clone, Copy, Debug, PartialEq, Eq)]
+#[derive(Clone, Copy, PartialEq, Eq)]
 pub enum Move {
     /// Carries up to `k` of the octets that wait on the connection to its target.
     To { c: u32, k: u32 },

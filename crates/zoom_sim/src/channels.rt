@@ -37,7 +37,7 @@ pub trait Channel {
 }
 
 /// The channel within memory: every piece arrives.
-#[derive(Clone, Copy, Debug)]
+#[derive(Clone, Copy)]
 pub struct InMemory;
 
 impl Channel for InMemory {

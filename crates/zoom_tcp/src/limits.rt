@@ -9,7 +9,7 @@ use std::time::Duration;
 use zoom_asking::AskedHost;
 
 /// Which addresses of hosts are used.
-#[derive(Clone, Copy, Debug, PartialEq, Eq)]
+#[derive(Clone, Copy, PartialEq, Eq)]
 pub enum Family {
     /// All.
     Any,
@@ -33,7 +33,7 @@ impl Family {
 }
 
 /// The limits of asking hosts.
-#[derive(Clone, Copy, Debug, PartialEq, Eq)]
+#[derive(Clone, Copy, PartialEq, Eq)]
 pub struct Limits {
     /// The longest time for connecting to a host, from when its addresses are known.
     pub connect: Duration,
@@ -46,7 +46,7 @@ pub struct Limits {
 }
 
 /// The waiting times that a host has of its own. `None`: it has none, and `Limits` hold.
-#[derive(Clone, Copy, Debug, PartialEq, Eq)]
+#[derive(Clone, Copy, PartialEq, Eq)]
 pub struct HostWaits {
     /// The longest time for connecting to the host, from when its addresses are known.
     pub connect: Option<Duration>,

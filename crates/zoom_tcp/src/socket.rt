@@ -9,7 +9,7 @@ use std::os::fd::{AsRawFd, RawFd};
 use zoom_trace::Notice;
 
 /// What moving octets gave.
-#[derive(Clone, Copy, Debug, PartialEq, Eq)]
+#[derive(Clone, Copy, PartialEq, Eq)]
 pub(crate) enum Moved {
     /// So many octets were moved.
     Octets(usize),
@@ -22,7 +22,7 @@ pub(crate) enum Moved {
 }
 
 /// How an attempt to connect stands.
-#[derive(Clone, Copy, Debug, PartialEq, Eq)]
+#[derive(Clone, Copy, PartialEq, Eq)]
 pub(crate) enum Progress {
     Connected,
     Pending,

@@ -25,7 +25,7 @@ const PIECE: usize = 65_536;
 const TOKENS: usize = 4_294_967_296;
 
 /// What happened on a connection.
-#[derive(Clone, Copy, Debug, PartialEq, Eq)]
+#[derive(Clone, Copy, PartialEq, Eq)]
 pub(crate) enum Happening {
     Report(Report),
     /// So many octets came. They stand at the front of the piece.

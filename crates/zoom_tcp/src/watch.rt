@@ -13,7 +13,7 @@ pub trait Watch {
 }
 
 /// Watches nothing.
-#[derive(Clone, Copy, Debug)]
+#[derive(Clone, Copy)]
 pub struct Unwatched;
 
 impl Watch for Unwatched {

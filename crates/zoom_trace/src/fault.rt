@@ -6,7 +6,7 @@ ghost use Rattle.zoom_trace.specs.declared.fault.TraceError.TheVariants as trace
 use std::alloc::{AllocError, AllocFailed};
 
 /// Why a line of a trace was not read.
-#[derive(Clone, Copy, Debug, PartialEq, Eq)]
+#[derive(Clone, Copy, PartialEq, Eq)]
 pub enum EntryError {
     /// The line is not the text of an entry.
     Refused,
@@ -15,7 +15,7 @@ pub enum EntryError {
 }
 
 /// Why a trace was not read, or not fed to an asking.
-#[derive(Clone, Copy, Debug, PartialEq, Eq)]
+#[derive(Clone, Copy, PartialEq, Eq)]
 pub enum TraceError {
     /// The first line at fault, from 1.
     Refused { line: u64 },

@@ -2,7 +2,7 @@
 
 /// What was noticed of a host last, beside the state of its connection. It says why a connection failed, as far as the
 /// system told.
-#[derive(Clone, Copy, Debug, PartialEq, Eq)]
+#[derive(Clone, Copy, PartialEq, Eq)]
 pub enum Notice {
     /// Nothing: the host was silent, or there was no time for it.
     Nothing,

@@ -3,48 +3,63 @@ ghost use Rattle.std.specs.Prelude.{◌≡◌};
 ghost use Rattle.zorigin.specs.Refusal.{call_refusal_name, reply_refusal_name};
 
 use std::alloc::{AllocError, AllocFailed};
+use std::fmt::{self, Display};
 use thiserror::Error;
 
 /// Why a call is refused. Of several reasons it is the first here. The origin is unchanged.
 #[derive(Clone, Copy, Debug, PartialEq, Eq, Error)]
 pub enum CallRefused {
     /// `init` was called and the state is not Fresh, or another call was made and the state is not Ready.
-    #[error("not in this state")]
     WrongState,
     /// The search or present option is not in force; or a Present asks for two or more ranges and version 3 is not in
     /// force.
-    #[error("the option is not in force")]
     NotOffered,
     /// An earlier admitted call had this operation number. The number of `init` is 0.
-    #[error("the operation's number was used")]
     OpUsed,
     /// An earlier admitted search had this set.
-    #[error("the set was used")]
     SetUsed,
     /// No admitted search had this set.
-    #[error("the set is unknown")]
     SetUnknown,
     /// The set's search is unanswered, or failed.
-    #[error("the set is not ready")]
     SetNotReady,
     /// Named result sets are not in force, and a later search was admitted.
-    #[error("the set was replaced")]
     SetReplaced,
     /// A search is of set 0, has a negative bound, or has a large bound not above the small one. Or a Present has no
     /// range; has a range whose start or number is below 1, or that does not begin after the end of the one before; or
     /// asks for a position above the count or above 2,147,483,647.
-    #[error("out of range")]
     OutOfRange,
     /// An operation is outstanding, and concurrent operations are not in force. Or an operation is outstanding, the
     /// call is a search, named result sets are not in force, and an earlier search was admitted.
-    #[error("an operation is outstanding")]
     Busy,
     /// The request has no element, more than 64 levels of constructed elements, or more than 2,097,152 octets.
-    #[error("the request can't be sent")]
     Unsendable,
     /// No memory was found. No reason above but `Unsendable` is true.
-    #[error("out of memory")]
     Memory,
+}
+
+impl CallRefused {
+    /// Returns the fault in words.
+    fn text(self) -> &'static str {
+        match self {
+            CallRefused::WrongState => "not in this state",
+            CallRefused::NotOffered => "the option is not in force",
+            CallRefused::OpUsed => "the operation's number was used",
+            CallRefused::SetUsed => "the set was used",
+            CallRefused::SetUnknown => "the set is unknown",
+            CallRefused::SetNotReady => "the set is not ready",
+            CallRefused::SetReplaced => "the set was replaced",
+            CallRefused::OutOfRange => "out of range",
+            CallRefused::Busy => "an operation is outstanding",
+            CallRefused::Unsendable => "the request can't be sent",
+            CallRefused::Memory => "out of memory",
+        }
+    }
+}
+
+impl Display for CallRefused {
+    fn fmt<W: fmt::Write>(&self, f: &mut fmt::Formatter<W>) -> fmt::Result {
+        f.write_str(self.text())
+    }
 }
 
 /// Why an APDU is refused. Of several reasons it is the first here, with one exception: for a reply of another kind
@@ -52,28 +67,42 @@ pub enum CallRefused {
 #[derive(Clone, Copy, Debug, PartialEq, Eq, Error)]
 pub enum Refused {
     /// The origin is Fresh, Closed or Failed. It is unchanged.
-    #[error("not in this state")]
     WrongState,
     /// The APDU is a request, or a reply of another kind than its operation.
-    #[error("not the kind of reply")]
     WrongKind,
     /// The reference id is not four octets that name an outstanding operation. Or it is absent, and concurrent
     /// operations are in force or not exactly one operation is outstanding.
-    #[error("the reference id names no outstanding operation")]
     UnknownReference,
     /// No diagnostics came, and numberOfRecordsReturned is not the number of records.
-    #[error("the number of records is not the one told")]
     CountMismatch,
     /// resultCount is negative.
-    #[error("a negative number")]
     BadNumber,
     /// The reply has more records than resultCount or than asked for, or a fragment of a record; or the reply to a
     /// Present has neither a record nor a diagnostic.
-    #[error("not the records that were asked for")]
     BadShape,
     /// No memory was found. The origin is unchanged.
-    #[error("out of memory")]
     Memory,
+}
+
+impl Refused {
+    /// Returns the fault in words.
+    fn text(self) -> &'static str {
+        match self {
+            Refused::WrongState => "not in this state",
+            Refused::WrongKind => "not the kind of reply",
+            Refused::UnknownReference => "the reference id names no outstanding operation",
+            Refused::CountMismatch => "the number of records is not the one told",
+            Refused::BadNumber => "a negative number",
+            Refused::BadShape => "not the records that were asked for",
+            Refused::Memory => "out of memory",
+        }
+    }
+}
+
+impl Display for Refused {
+    fn fmt<W: fmt::Write>(&self, f: &mut fmt::Formatter<W>) -> fmt::Result {
+        f.write_str(self.text())
+    }
 }
 
 impl CallRefused {

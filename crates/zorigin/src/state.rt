@@ -5,7 +5,7 @@ use bytes::Bytes;
 use zber::Oid;
 
 /// The state of an origin. Of several that are true it is the last one here.
-#[derive(Clone, Copy, Debug, PartialEq, Eq)]
+#[derive(Clone, Copy, PartialEq, Eq)]
 pub enum State {
     /// Init was not called.
     Fresh,
@@ -29,7 +29,7 @@ pub enum State {
 }
 
 /// The options and version in force: those that the origin offered and the response to Init has.
-#[derive(Clone, Copy, Debug, PartialEq, Eq)]
+#[derive(Clone, Copy, PartialEq, Eq)]
 pub(crate) struct InForce {
     pub search: bool,
     pub present: bool,
@@ -39,7 +39,7 @@ pub(crate) struct InForce {
 }
 
 /// The outcome of a search.
-#[derive(Clone, Copy, Debug, PartialEq, Eq)]
+#[derive(Clone, Copy, PartialEq, Eq)]
 pub(crate) enum Outcome {
     /// searchStatus was true. The set has so many records.
     Found(i64),

@@ -1,7 +1,7 @@
 // Operators (Z39.50-2003, Operator).
 
 /// An operator over two structures, other than proximity.
-#[derive(Clone, Copy, Debug, PartialEq, Eq)]
+#[derive(Clone, Copy, PartialEq, Eq)]
 pub enum Operator {
     /// The records of both.
     And,

@@ -14,7 +14,7 @@ use std::alloc::{AllocError, Global};
 
 /// An entry that a search found: the number of its database among those of the target, and its own number in that
 /// database, each counted from 0.
-#[derive(Clone, Copy, Debug, PartialEq, Eq)]
+#[derive(Clone, Copy, PartialEq, Eq)]
 pub(crate) struct Hit {
     pub(crate) database: usize,
     pub(crate) entry: u32,

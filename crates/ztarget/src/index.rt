@@ -18,7 +18,7 @@ use std::marker::Model;
 
 /// The place of a word: the number of its entry, of the field in the entry, and of the word in the field, each counted
 /// from 0.
-#[derive(Clone, Copy, Debug, PartialEq, Eq, PartialOrd, Ord)]
+#[derive(Clone, Copy, PartialEq, Eq, PartialOrd, Ord)]
 pub(crate) struct Place {
     pub(crate) entry: u32,
     pub(crate) field: usize,

@@ -9,7 +9,7 @@ use zasn::{PartError, Tagged};
 use zber::{FrameError, Framer, Node};
 
 /// Why no value was taken from the octets.
-#[derive(Clone, Copy, Debug, PartialEq, Eq, Drop)]
+#[derive(Clone, Copy, PartialEq, Eq, Drop)]
 pub(crate) enum FrontError {
     /// The octets do not begin with an element of such a value.
     NoValue,

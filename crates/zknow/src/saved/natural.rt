@@ -6,7 +6,7 @@ use zasn::{BuildError, Contents, PartError};
 use zber::{Node, Tag};
 
 /// A number of 32 bits as an INTEGER (X.690, 8.3).
-#[derive(Clone, Copy, Debug, PartialEq, Eq)]
+#[derive(Clone, Copy, PartialEq, Eq)]
 pub(crate) struct Natural {
     pub(crate) number: u32,
 }

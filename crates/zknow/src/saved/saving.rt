@@ -16,6 +16,7 @@ use crate::saved::saved_fact::fact_node;
 use crate::saved::saved_names::SavedNames;
 use crate::tables::fact_ref::FactRef;
 use std::alloc::{AllocError, Global};
+use std::fmt::{self, Display};
 use thiserror::Error;
 use zasn::{BuildError, Tagged};
 use zber::{EncodeError, Node};
@@ -27,14 +28,28 @@ pub(crate) const LONGEST: u32 = 4_194_304;
 #[derive(Clone, Copy, Debug, PartialEq, Eq, Drop, Error)]
 pub enum SaveError {
     /// An element has more than 64 levels of constructed elements.
-    #[error("more than 64 constructed elements stand within one another")]
     TooDeep,
     /// No element is too deep, but one has more than 4,194,304 octets.
-    #[error("an element is longer than 4,194,304 octets")]
     TooLong,
     /// No memory was found.
-    #[error("out of memory")]
     Memory,
+}
+
+impl SaveError {
+    /// Returns the fault in words.
+    fn text(self) -> &'static str {
+        match self {
+            SaveError::TooDeep => "more than 64 constructed elements stand within one another",
+            SaveError::TooLong => "an element is longer than 4,194,304 octets",
+            SaveError::Memory => "out of memory",
+        }
+    }
+}
+
+impl Display for SaveError {
+    fn fmt<W: fmt::Write>(&self, f: &mut fmt::Formatter<W>) -> fmt::Result {
+        f.write_str(self.text())
+    }
 }
 
 impl SaveError {

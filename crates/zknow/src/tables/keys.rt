@@ -5,7 +5,7 @@ use crate::tables::join::{Join, Key};
 use std::alloc::{AllocError, Global};
 
 /// A target's set.
-#[derive(Clone, Copy, Debug, PartialEq, Eq, PartialOrd, Ord)]
+#[derive(Clone, Copy, PartialEq, Eq, PartialOrd, Ord)]
 pub struct SetKey {
     /// The number of the target.
     pub target: u32,
@@ -18,7 +18,7 @@ impl Key for SetKey {
 }
 
 /// A row of the list: a position in a target's set.
-#[derive(Clone, Copy, Debug, PartialEq, Eq, PartialOrd, Ord)]
+#[derive(Clone, Copy, PartialEq, Eq, PartialOrd, Ord)]
 pub struct RowKey {
     /// The position, from 1 on.
     pub position: i64,
@@ -39,7 +39,7 @@ impl Key for i64 {
 }
 
 /// Whether something happened. If it did, the mark has one item.
-#[derive(Clone, Copy, Debug, PartialEq, Eq)]
+#[derive(Clone, Copy, PartialEq, Eq)]
 pub(crate) struct Mark {
     pub(crate) is_set: bool,
 }

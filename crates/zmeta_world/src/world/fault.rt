@@ -5,7 +5,7 @@ ghost use Rattle.zmeta_world.specs.declared.world.fault.LineFault.TheVariants.{M
 use std::alloc::{AllocError, AllocFailed};
 
 /// Why a line of a world file is refused.
-#[derive(Clone, Copy, Debug, PartialEq, Eq)]
+#[derive(Clone, Copy, PartialEq, Eq)]
 pub(crate) enum LineFault {
     /// The line has none of the forms, or cannot follow the lines before it.
     Refused,

@@ -16,7 +16,7 @@ use zquery::{Token, oid_named};
 use ztarget::{Field, TargetSettings};
 
 /// The direction of a move.
-#[derive(Clone, Copy, Debug, PartialEq, Eq)]
+#[derive(Clone, Copy, PartialEq, Eq)]
 pub(crate) enum Way {
     /// From a connection to its target.
     To,

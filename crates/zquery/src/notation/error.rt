@@ -4,44 +4,40 @@ ghost use Rattle.zquery.specs.declared.notation.error.PqfErrorKind.TheVariants a
 ghost use Rattle.zquery.specs.Notation.Errors.{pqf_kind_name};
 
 use std::alloc::{AllocError, AllocFailed};
+use std::fmt::{self, Display};
 use thiserror::Error;
 
 /// What is wrong with a text of the prefix notation.
-#[derive(Clone, Copy, Debug, PartialEq, Eq, Error)]
+#[derive(Clone, Copy, Debug, PartialEq, Eq)]
 pub enum PqfErrorKind {
     /// No quote closes the one that opens here.
-    #[error("OpenQuote")]
     OpenQuote,
     /// The text has no token.
-    #[error("Empty")]
     Empty,
     /// Where a query is expected, a token begins with `@` and is no keyword of the notation there.
-    #[error("UnknownWord")]
     UnknownWord,
     /// The text ends before the query does.
-    #[error("MissingOperand")]
     MissingOperand,
     /// An attribute is not a type and a value, both decimal digits and at most 2,147,483,647.
-    #[error("BadAttribute")]
     BadAttribute,
     /// An attribute set is neither `bib-1` nor an object identifier.
-    #[error("UnknownSet")]
     UnknownSet,
     /// A type of term is not `general`, `numeric` or `string`.
-    #[error("BadTermType")]
     BadTermType,
     /// A numeric term is not decimal digits, with or without a minus before them, within 64 bits.
-    #[error("BadNumber")]
     BadNumber,
     /// An operand or operator stands below 32 operators.
-    #[error("TooDeep")]
     TooDeep,
     /// A token stands behind the whole query.
-    #[error("Trailing")]
     Trailing,
     /// No memory was found.
-    #[error("Memory")]
     Memory,
+}
+
+impl Display for PqfErrorKind {
+    fn fmt<W: fmt::Write>(&self, f: &mut fmt::Formatter<W>) -> fmt::Result {
+        f.write_str(self.name())
+    }
 }
 
 impl PqfErrorKind {

@@ -6,7 +6,7 @@ use crate::notation::token::Token;
 use zquery_rpn::Operator;
 
 /// The type of a term: `general`, `numeric` or `string`.
-#[derive(Clone, Copy, Debug, PartialEq, Eq)]
+#[derive(Clone, Copy, PartialEq, Eq)]
 pub(crate) enum TermKind {
     GeneralTerm,
     NumericTerm,
@@ -14,7 +14,7 @@ pub(crate) enum TermKind {
 }
 
 /// What a token is where a query is expected.
-#[derive(Clone, Copy, Debug, PartialEq, Eq)]
+#[derive(Clone, Copy, PartialEq, Eq)]
 pub(crate) enum TokenKind {
     AttrSet,
     Attribute,

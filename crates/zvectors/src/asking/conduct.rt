@@ -4,7 +4,7 @@ use std::alloc::Global;
 use zoom_asking::{Report, Task};
 
 /// The socket of an attempt to connect.
-#[derive(Clone, Copy, Debug, PartialEq, Eq)]
+#[derive(Clone, Copy, PartialEq, Eq)]
 enum Socket {
     /// The attempt was not begun.
     Ahead,

@@ -8,7 +8,7 @@ use zknow::Known;
 use zoom::{Meta, Reason, State};
 
 /// How a connection may end.
-#[derive(Clone, Copy, Debug, PartialEq, Eq)]
+#[derive(Clone, Copy, PartialEq, Eq)]
 enum Due {
     /// Fresh, since it was not asked.
     Nothing,
