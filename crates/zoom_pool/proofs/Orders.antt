@@ -13,7 +13,7 @@ use Rattle.zorigin.specs.declared.settings.Settings.{Settings}
 use Rattle.zorigin.specs.declared.answer.What.{What}
 use Rattle.zorigin.specs.declared.answer.What.TheVariants as what
 use Rattle.zorigin.specs.declared.answer.Answer.{Answer}
-use Rattle.zorigin.specs.Facts.{facts_by, facts_of}
+use Rattle.zorigin_facts.specs.Facts.{facts_by, facts_of}
 use Rattle.zoom_pool.specs.Links.{Links}
 use Rattle.zoom_pool.specs.History.{History, accepted, After}
 use Rattle.zoom_pool.specs.Laws.{plain, plain_answer, AreAmong, AreSameAccepted, OrderLaw}

@@ -18,7 +18,7 @@ use Rattle.zorigin.specs.declared.answer.Taken.TheVariants as taken
 use Rattle.zorigin.specs.declared.refusal.Refused.{Refused}
 use Rattle.zorigin.specs.Standings.{is_open}
 use Rattle.zorigin.specs.Replies.{verdict}
-use Rattle.zorigin.specs.Facts.{facts_of}
+use Rattle.zorigin_facts.specs.Facts.{facts_of}
 use Rattle.zorigin.specs.Sending.{encoding_of}
 use Rattle.zorigin.specs.Log.{Got, Past, standing, state_of, after_verdict}
 use Rattle.zoom_pool.specs.Links.{Link, Links}

@@ -15,7 +15,7 @@ use Rattle.zorigin.specs.declared.settings.Settings.{Settings}
 use Rattle.zorigin.specs.declared.refusal.CallRefused.{CallRefused}
 use Rattle.zorigin.specs.Standings.{Call}
 use Rattle.zorigin.specs.Calls.{refusal}
-use Rattle.zorigin.specs.Facts.{facts_of}
+use Rattle.zorigin_facts.specs.Facts.{facts_of}
 use Rattle.zorigin.specs.Log.{Made, Past, standing, admit_unless}
 use Rattle.zoom_pool.specs.declared.state.State.{State}
 use Rattle.zoom_pool.specs.Links.{Link, Links, waiting_in, waiting_at, stop_in, stop_at, IsStopAt, SameOthers, SameElse}

@@ -17,7 +17,7 @@ use Rattle.zorigin.specs.declared.answer.What.TheVariants as what
 use Rattle.zorigin.specs.Fitting.{records_in, diagnostics_in}
 use Rattle.zplan.specs.Positions.{first_of}
 use Rattle.zplan.specs.Ranges.{positions}
-use Rattle.zorigin.specs.Facts.{seen_at, diagnostic_facts, count_or_failed, facts_by, facts_of}
+use Rattle.zorigin_facts.specs.Facts.{seen_at, diagnostic_facts, count_or_failed, facts_by, facts_of}
 use Rattle.zoom_pool.specs.Transcripts.{Transcript}
 use Rattle.zoom_pool.specs.History.{accepted, IsKnown}
 use Rattle.zoom_pool.specs.Conflicts.{IsShownBy, DifferingRecords, ConflictLaw}

@@ -5,7 +5,7 @@ use Rattle.zknow.specs.declared.fact.Fact.{Fact}
 use Rattle.zknow.specs.Facts.{AreFacts}
 use Rattle.zorigin.specs.declared.settings.Settings.{Settings}
 use Rattle.zorigin.specs.declared.answer.Answer.{Answer}
-use Rattle.zorigin.specs.Facts.{facts_of}
+use Rattle.zorigin_facts.specs.Facts.{facts_of}
 use Rattle.zoom_pool.specs.States.{is_stopped}
 use Rattle.zoom_pool.specs.Transcripts.{Event, Transcript, empty_transcript, past_of, state_at, IsNews}
 use Rattle.zoom_pool.specs.Connections.{ConnectionAfter}

@@ -7,7 +7,7 @@ use Rattle.zknow.specs.declared.fact.Fact.{Fact}
 use Rattle.zknow.specs.Tables.Join.{IsUnion, IsPartOfUnion}
 use Rattle.zorigin.specs.declared.answer.Answer.{Answer}
 use Rattle.zorigin.specs.declared.answer.Taken.{Taken}
-use Rattle.zorigin.specs.Facts.{IsFitAnswer, HasFitAnswer}
+use Rattle.zorigin.specs.Answers.{IsFitAnswer, HasFitAnswer}
 
 -- the reply was read from an element, and its facts can be shown
 pub record IsLearnable (answer : Answer) : Type 0 where

@@ -15,7 +15,7 @@ use Rattle.zorigin.specs.Standings.{Call}
 use Rattle.zorigin.specs.Calls.{call_result}
 use Rattle.zorigin.specs.Replies.{verdict}
 use Rattle.zorigin.specs.Sending.{encoding_of, request_of}
-use Rattle.zorigin.specs.Facts.{facts_of}
+use Rattle.zorigin_facts.specs.Facts.{facts_of}
 use Rattle.zorigin.specs.Log.{Log, Made, Got, Past, past, state_of, standing, request_list}
 use Rattle.zoom_pool.specs.declared.state.State.{State}
 use Rattle.zoom_pool.specs.declared.state.State.TheVariants as states

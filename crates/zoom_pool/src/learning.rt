@@ -2,15 +2,16 @@
 ghost use Rattle.std.specs.Prelude.{◌≡◌, ◌≢◌, Ok, IfOk, IfErr, OnOk};
 ghost use Rattle.std.specs.List.{AllByRecursion};
 ghost use Rattle.zknow.specs.Facts.{IsFact};
-ghost use Rattle.zorigin.specs.Facts.{facts_of};
+ghost use Rattle.zorigin_facts.specs.Facts.{facts_of};
 ghost use Rattle.zorigin.specs.Log.{IsTakenReply};
 ghost use Rattle.zoom_pool.specs.Learned.{IsLearnable, IsLearnableTaken, AreAdded, ArePartlyAdded};
 ghost use Rattle.zoom_pool.specs.Transcripts.{facts_in, facts_of_verdict, answer_in};
 
 use std::alloc::{AllocError, Global};
 use zknow::{Fact, Knowledge};
-use zorigin::laws::known_facts;
-use zorigin::{Answer, Refused, Taken, facts_of};
+use zorigin::{Answer, Refused, Taken};
+use zorigin_facts::facts_of;
+use zorigin_facts::laws::known_facts;
 
 /// Adds facts one by one. If no memory is found, a part of them may be added.
 fn add_all(knowledge: &mut Knowledge, facts: &[Fact]) -> Result<(), AllocError>

@@ -14,7 +14,7 @@ use Rattle.zknow.specs.Tables.DistinctLaws.{none_in_nil, in_cons}
 use Rattle.zorigin.specs.declared.answer.What.{What}
 use Rattle.zorigin.specs.declared.answer.What.TheVariants as what
 use Rattle.zorigin.specs.Fitting.{records_in, diagnostics_in}
-use Rattle.zorigin.specs.Facts.{seen_at, diagnostic_facts, count_or_failed, facts_by}
+use Rattle.zorigin_facts.specs.Facts.{seen_at, diagnostic_facts, count_or_failed, facts_by}
 use Rattle.zoom_pool.specs.Transcripts.{Transcript}
 use Rattle.zoom_pool.specs.History.{accepted, facts_at}
 use Rattle.zoom_pool.proofs.Orders.{from_answer}

@@ -12,7 +12,7 @@ use Rattle.zorigin.specs.declared.refusal.CallRefused.{CallRefused}
 use Rattle.zorigin.specs.References.{operation_number}
 use Rattle.zorigin.specs.Standings.{Standing}
 use Rattle.zorigin.specs.Fitting.{fault_of}
-use Rattle.zorigin.specs.Facts.{has_valid_ranges, IsFitAnswerWith, HasFitAnswer, HaveValidRanges}
+use Rattle.zorigin.specs.Answers.{has_valid_ranges, IsFitAnswerWith, HasFitAnswer, HaveValidRanges}
 use Rattle.zorigin.specs.Replies.{only_of, numbered_as, named, taken_by, taken_as, HasAnswer}
 use Rattle.zorigin.proofs.Fittings.{fitting}
 

@@ -1,5 +1,4 @@
 pub mod Ranges
-pub mod Positions
 pub mod Calling
 pub mod Operations
 pub mod Searches
@@ -10,8 +9,6 @@ pub mod Ids
 pub mod Fittings
 pub mod Members
 pub mod Accepting
-pub mod KnownFacts
-pub mod SpelledRecords
 pub mod Askable
 pub mod Orderly
 pub mod SendableSizes

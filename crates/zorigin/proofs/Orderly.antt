@@ -18,7 +18,7 @@ use Rattle.zorigin.specs.declared.refusal.CallRefused.{CallRefused}
 use Rattle.zorigin.specs.declared.refusal.Refused.{Refused}
 use Rattle.zorigin.specs.declared.state.State.TheVariants as states
 use Rattle.zorigin.specs.declared.state.Searched.{Searched}
-use Rattle.zorigin.specs.Facts.{has_valid_ranges}
+use Rattle.zorigin.specs.Answers.{has_valid_ranges}
 use Rattle.zorigin.specs.Standings.{Call, Init, Search, Present, Close, Standing, is_open, is_ready}
 use Rattle.zorigin.specs.Sending.{init_request, search_request, close_request, request_of}
 use Rattle.zorigin.specs.Calls.{refusal, early_refusal, or_unsendable, unsendable, call_result_by}

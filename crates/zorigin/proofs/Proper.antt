@@ -19,7 +19,7 @@ use Rattle.zorigin.specs.declared.state.Searched.{Searched}
 use Rattle.zorigin.specs.References.{operation_number}
 use Rattle.zorigin.specs.Fitting.{first_row, fault_of}
 use Rattle.zorigin.specs.Ranges.{are_ranges}
-use Rattle.zorigin.specs.Facts.{has_valid_ranges}
+use Rattle.zorigin.specs.Answers.{has_valid_ranges}
 use Rattle.zorigin.specs.Standings.{Call, Init, Search, Present, Close, Standing, is_open, is_ready}
 use Rattle.zorigin.specs.Calls.{refusal, or_unsendable, unsendable, early_rows, early_refusal, wrong_state, op_used, set_used, out_of_range}
 use Rattle.zorigin.specs.Replies.{only_of, numbered_as, named, against, judged, open_verdict, verdict, taken_as, taken_by}

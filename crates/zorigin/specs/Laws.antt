@@ -8,7 +8,7 @@ use Rattle.zorigin.specs.declared.answer.Asked.{Asked}
 use Rattle.zorigin.specs.declared.answer.Answer.{Answer}
 use Rattle.zorigin.specs.declared.state.Searched.{Searched}
 use Rattle.zorigin.specs.Standings.{Call, Close, Standing}
-use Rattle.zorigin.specs.Facts.{has_valid_ranges}
+use Rattle.zorigin.specs.Answers.{has_valid_ranges}
 use Rattle.zorigin.specs.Sending.{request_of, sent_of}
 use Rattle.zorigin.specs.Calls.{call_result}
 use Rattle.zorigin.specs.Log.{Past, asked, op_of, searches_in}

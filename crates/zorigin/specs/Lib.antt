@@ -2,7 +2,7 @@ pub mod Refusal
 pub mod References
 pub mod Ranges
 pub mod Fitting
-pub mod Facts
+pub mod Answers
 pub mod Standings
 pub mod Sending
 pub mod Calls

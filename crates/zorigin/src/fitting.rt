@@ -10,7 +10,7 @@ use zapdu::{Apdu, PresentResponse, Record, RecordBody, Records, SearchResponse};
 use zplan::Range;
 
 /// The records of a response.
-pub(crate) fn records_in(records: &Option<Records>) -> &[Record]
+pub fn records_in(records: &Option<Records>) -> &[Record]
     ensures { result.now ≡ records_in records.now }
 {
     match records {

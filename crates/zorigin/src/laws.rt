@@ -1,5 +1,5 @@
 //! Laws of the definitions. Each is the contract of a function that does nothing.
-ghost use Rattle.std.specs.Prelude.{◌≡◌, ℕ, None, Contains};
+ghost use Rattle.std.specs.Prelude.{◌≡◌, None, Contains};
 ghost use Rattle.zorigin.specs.declared.settings.Settings.{Settings};
 ghost use Rattle.zorigin.specs.declared.answer.Answer.{Answer};
 ghost use Rattle.zorigin.specs.Log.{Log, past};
@@ -8,11 +8,6 @@ ghost use Rattle.zorigin.specs.Calls.{refusal};
 ghost use Rattle.zorigin.specs.Accepts.{IsAccepted};
 ghost use Rattle.zorigin.specs.Laws.{IsOrderly, HasRequest};
 ghost use Rattle.zorigin.specs.Sendable.{SendableLaws};
-ghost use Rattle.std.specs.List.{AllByRecursion};
-ghost use Rattle.zber.specs.Elements.{Element};
-ghost use Rattle.zapdu.specs.Writes.{Writes};
-ghost use Rattle.zknow.specs.Facts.{IsFact};
-ghost use Rattle.zorigin.specs.Facts.{facts_of, IsFitAnswer};
 
 /// The accepted replies of a log are exactly those for which all of the following is true. The reply was taken after a
 /// part of the log in which its request was admitted and not answered. The origin took replies then. The reply's
@@ -34,12 +29,6 @@ pub fn orderly_logs()
 /// A call that no row of the table refuses has a request, and its result is that request.
 pub fn sent_requests()
     ensures { (s : Standing) (call : Call) → refusal s call ≡ None → HasRequest s call }
-{}
-
-/// If the reply has an element, as each reply that was read has, the facts of the answer can be added to a knowledge.
-pub fn known_facts()
-    ensures { (target : ℕ) (answer : Answer) (n : Element)
-        → IsFitAnswer answer → Writes answer.reply n → AllByRecursion IsFact (facts_of target answer) }
 {}
 
 /// An Init can be sent if the origin's name has at most 2,000,000 octets. If a search can be sent, and asks for no

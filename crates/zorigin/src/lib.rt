@@ -4,7 +4,6 @@
 mod admitting;
 mod answer;
 mod calls;
-mod facts;
 mod fitting;
 pub mod laws;
 mod origin;
@@ -19,8 +18,9 @@ mod settings;
 mod state;
 
 pub use answer::{Answer, Asked, Sent, Taken, What};
-pub use facts::facts_of;
+pub use fitting::records_in;
 pub use origin::Origin;
+pub use range::{first_of, natural};
 pub use refusal::{CallRefused, Refused};
 pub use settings::{Ask, Settings};
 pub use state::State;

@@ -30,7 +30,7 @@ pub struct Origin {
 
 impl Model for Origin {
     ghost use Rattle.zorigin.specs.Standings.{Standing};
-    ghost use Rattle.zorigin.specs.Facts.{HaveValidRanges};
+    ghost use Rattle.zorigin.specs.Answers.{HaveValidRanges};
 
     ghost Value = { Standing };
 

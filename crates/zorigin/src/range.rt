@@ -10,7 +10,7 @@ use zplan::Range;
 const LAST_POSITION: i64 = 2_147_483_647;
 
 /// Returns the number, or 0 if it is negative.
-pub(crate) fn natural(number: i64) -> usize
+pub fn natural(number: i64) -> usize
     ensures { result ≡ natural number }
 {
     if number < 0 { 0 } else { number as usize }
@@ -85,7 +85,7 @@ pub(crate) fn exceed_positions(len: usize, ranges: &[Range]) -> bool
 }
 
 /// The first position of the ranges.
-pub(crate) fn first_of(ranges: &[Range]) -> i64
+pub fn first_of(ranges: &[Range]) -> i64
     requires { are_ranges ranges.now ≡ true }
     ensures { result ≡ pos (first_of (positions ranges.now)) }
 {

@@ -4,7 +4,7 @@ ghost use Rattle.std.specs.Option.{option_map};
 ghost use Rattle.zorigin.specs.Standings.{is_open, ready};
 ghost use Rattle.zorigin.specs.Replies.{only_of, named, taken_as, against, verdict, HasAnswer};
 ghost use Rattle.zorigin.specs.Changes.{options_in_force, outcome_in, noted_if, noted, without_operation, opened_at, refused_at, settled_at, AfterRefusal};
-ghost use Rattle.zorigin.specs.Facts.{HasFitAnswer};
+ghost use Rattle.zorigin.specs.Answers.{HasFitAnswer};
 ghost use Rattle.zorigin.specs.Log.{IsGivenVerdict, IsResultOfTake, IsAcceptedReply, IsJudgement, OriginAfterTake, OriginAfterJudgement};
 
 use crate::answer::{Answer, Asked, Taken};

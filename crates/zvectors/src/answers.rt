@@ -8,7 +8,8 @@ use zapdu_rows::parts::Line;
 use zber_rows::unread::{Unread, read};
 use zknow::Fact;
 use zknow_rows::shown::put_facts;
-use zorigin::{Origin, Taken, facts_of};
+use zorigin::{Origin, Taken};
+use zorigin_facts::facts_of;
 
 // Sessions in which `facts` takes a reply and answers its facts, for target 7.
 const SESSIONS: &str = "\

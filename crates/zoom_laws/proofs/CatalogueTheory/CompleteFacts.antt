@@ -23,7 +23,7 @@ use Rattle.zorigin.specs.declared.answer.Answer.{Answer}
 use Rattle.zorigin.specs.Standings.{nothing_in_force}
 use Rattle.zplan.specs.Positions.{first_of}
 use Rattle.zplan.specs.Ranges.{positions, natural}
-use Rattle.zorigin.specs.Facts.{facts_of, facts_by, seen_at, seen_from, diagnostic_facts}
+use Rattle.zorigin_facts.specs.Facts.{facts_of, facts_by, seen_at, seen_from, diagnostic_facts}
 use Rattle.zorigin.specs.Fitting.{records_in, diagnostics_in}
 use Rattle.zorigin.specs.Sending.{search_request, is_unsendable}
 use Rattle.zorigin.specs.Calls.{refusal, or_unsendable}

@@ -5,7 +5,7 @@ use Rattle.zapdu.specs.declared.productions.record.Record.{Record}
 use Rattle.zknow.specs.declared.fact.Fact.{Fact}
 use Rattle.zknow.specs.declared.fact.Fact.TheVariants.{Seen}
 use Rattle.zplan.specs.Positions.{IsIn}
-use Rattle.zorigin.specs.Facts.{seen_at}
+use Rattle.zorigin_facts.specs.Facts.{seen_at}
 use Rattle.ztarget.specs.Positions.{at_positions}
 
 pub to_map : {X Y : Type 0} (g : X → Y) (xs : List X) (x : X) → IsIn x xs → IsIn (g x) (map g xs)

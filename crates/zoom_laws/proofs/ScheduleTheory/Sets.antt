@@ -17,7 +17,7 @@ use Rattle.zorigin.specs.Standings.{Call, Init, Search, Present, Close}
 use Rattle.zorigin.specs.Calls.{refusal}
 use Rattle.zorigin.specs.Replies.{verdict}
 use Rattle.zorigin.specs.Log.{Log, Made, Got, past, standing, asked, operation_of, admit_unless}
-use Rattle.zorigin.specs.Facts.{facts_by, facts_of, init_facts, search_facts, present_facts}
+use Rattle.zorigin_facts.specs.Facts.{facts_by, facts_of, init_facts, search_facts, present_facts}
 use Rattle.zoom_pool.specs.Driving.{operation_for}
 use Rattle.zoom_pool.specs.Steering.{Errand, IsCallOf, IsSteered, IsSteeredCall}
 use Rattle.zoom_pool.specs.Laws.{plain}

@@ -1,7 +1,7 @@
 use Rattle.std.proofs.Common.{subst, rules, ◌≡◌}
 use Rattle.std.specs.Prelude.{Contains, OnOk}
 use Rattle.zknow.specs.Tables.Join.{IsUnion}
-use Rattle.zorigin.specs.Facts.{facts_of}
+use Rattle.zorigin_facts.specs.Facts.{facts_of}
 use Rattle.zoom_pool.proofs.learning.add_answer.Goals as goal
 
 pub returns-clause-ok : goal.returns-clause-ok

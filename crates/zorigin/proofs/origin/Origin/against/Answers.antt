@@ -1,5 +1,5 @@
 use Rattle.std.proofs.Common.{◌≡◌, None, Some, ◌∙◌, sym, ap, subst, rules}
-use Rattle.zorigin.specs.Facts.{HaveValidRanges, HasFitAnswer}
+use Rattle.zorigin.specs.Answers.{HaveValidRanges, HasFitAnswer}
 use Rattle.zorigin.specs.Fitting.{fault_of}
 use Rattle.zorigin.specs.Replies.{named, taken_as}
 use Rattle.zorigin.proofs.Askable.{fit_answer}

@@ -1,5 +1,5 @@
 use Rattle.std.proofs.Common.{subst, sym}
-use Rattle.zorigin.specs.Facts.{HaveValidRanges}
+use Rattle.zorigin.specs.Answers.{HaveValidRanges}
 use Rattle.zorigin.proofs.Askable.{asks_removed}
 use Rattle.zorigin.proofs.origin.Origin.remove_operation.Goals as goal
 

@@ -1,7 +1,7 @@
 use Rattle.std.proofs.Common.{w64}
 use Rattle.std.proofs.lemmas.Int.{to_z-of_z}
-use Rattle.zorigin.proofs.Positions.{seen_step}
-use Rattle.zorigin.proofs.facts.put_seen.Goals as goal
+use Rattle.zorigin_facts.proofs.Positions.{seen_step}
+use Rattle.zorigin_facts.proofs.facts.put_seen.Goals as goal
 
 pub loop-index-preserved : goal.loop-index-preserved
 loop-index-preserved c =

@@ -3,16 +3,15 @@ ghost use Rattle.std.specs.Prelude.{◌≡◌, true, ◌++◌, ℤ, pos, ◌+ℤ
 ghost use Rattle.zknow.specs.declared.fact.Fact.TheVariants.{Seen};
 ghost use Rattle.zorigin.specs.Ranges.{are_ranges};
 ghost use Rattle.zplan.specs.Ranges.{positions};
-ghost use Rattle.zorigin.specs.Facts.{seen_from, seen_at, diagnostic_facts, count_or_failed, init_facts, search_facts, present_facts, facts_of, IsFitAnswer};
+ghost use Rattle.zorigin.specs.Answers.{IsFitAnswer};
+ghost use Rattle.zorigin_facts.specs.Facts.{seen_from, seen_at, diagnostic_facts, count_or_failed, init_facts, search_facts, present_facts, facts_of};
 ghost use Rattle.zorigin.specs.Fitting.{records_in, diagnostics_in};
 
-use crate::answer::{Answer, What};
-use crate::fitting::records_in;
-use crate::range::{first_of, natural};
 use std::alloc::{AllocError, Global};
 use zapdu::{Apdu, DiagRec, InitResponse, PresentResponse, Record, Records, SearchResponse};
 use zber::Duplicate;
 use zknow::Fact;
+use zorigin::{Answer, What, first_of, natural, records_in};
 use zplan::Range;
 
 /// The fact of a record at position `first + index`.

@@ -18,7 +18,7 @@ use Rattle.zapdu.specs.Productions.PresentResponses.{present_response_table, pre
 use Rattle.zapdu.specs.Writes.{Writes}
 use Rattle.zasn.specs.Place.{IsSpellable}
 use Rattle.zorigin.specs.Fitting.{records_in}
-use Rattle.zorigin.specs.Facts.{records_of}
+use Rattle.zorigin_facts.specs.Facts.{records_of}
 
 abbrev AreSpelled : List Record → Type 0
 AreSpelled rs = AllByRecursion (λ r. IsSpellable whole_record r) rs

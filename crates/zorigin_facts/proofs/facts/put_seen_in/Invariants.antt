@@ -1,7 +1,7 @@
 use Rattle.std.proofs.Common.{◌≡◌, ◌++◌, drop}
 use Rattle.zplan.specs.Ranges.{positions}
-use Rattle.zorigin.specs.Facts.{seen_at}
-use Rattle.zorigin.proofs.facts.put_seen_in.Given as goal
+use Rattle.zorigin_facts.specs.Facts.{seen_at}
+use Rattle.zorigin_facts.proofs.facts.put_seen_in.Given as goal
 
 abbrev pub invariant-loop-range : goal.invariant-loop-range
 invariant-loop-range l =

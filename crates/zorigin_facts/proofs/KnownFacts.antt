@@ -17,7 +17,8 @@ use Rattle.zorigin.specs.declared.answer.Answer.{Answer}
 use Rattle.zorigin.specs.Fitting.{IsFitReply, records_in, diagnostics_in}
 use Rattle.zplan.specs.Positions.{first_of}
 use Rattle.zplan.specs.Ranges.{positions}
-use Rattle.zorigin.specs.Facts.{seen_from, seen_at, diagnostic_facts, count_or_failed, facts_by, facts_of, records_of, has_valid_ranges, IsFitAnswer}
+use Rattle.zorigin.specs.Answers.{has_valid_ranges, IsFitAnswer}
+use Rattle.zorigin_facts.specs.Facts.{seen_from, seen_at, diagnostic_facts, count_or_failed, facts_by, facts_of, records_of}
 use Rattle.zorigin.proofs.Ranges.{IsLow, follows, low_positions}
 
 abbrev AreFacts : List Fact → Type 0

@@ -1,6 +1,6 @@
 -- The facts of an answer, about the target's result sets (Z39.50-2003, 3.2.1.1, 3.2.2.1 and 3.2.3.1).
-use Rattle.std.specs.Prelude.{◌≡◌, ℕ, ℤ, pos, ◌+ℤ◌, Bool, true, if◌then◌else◌, List, [], ◌∷◌, ◌++◌, map, zip}
-use Rattle.std.specs.List.{AllByRecursion, enumerate_from}
+use Rattle.std.specs.Prelude.{ℕ, ℤ, pos, ◌+ℤ◌, Bool, if◌then◌else◌, List, [], ◌∷◌, ◌++◌, map, zip}
+use Rattle.std.specs.List.{enumerate_from}
 use Rattle.zapdu.specs.declared.apdu.Apdu.{Apdu}
 use Rattle.zapdu.specs.declared.apdu.Apdu.TheVariants as apdus
 use Rattle.zapdu.specs.declared.productions.record.Record.{Record}
@@ -12,14 +12,10 @@ use Rattle.zknow.specs.declared.fact.Fact.{Fact}
 use Rattle.zknow.specs.declared.fact.Fact.TheVariants.{Count, Failed, Seen, Diag}
 use Rattle.zorigin.specs.declared.answer.What.{What}
 use Rattle.zorigin.specs.declared.answer.What.TheVariants as what
-use Rattle.zorigin.specs.declared.answer.Asked.{Asked}
 use Rattle.zorigin.specs.declared.answer.Answer.{Answer}
-use Rattle.zorigin.specs.declared.answer.Taken.{Taken}
-use Rattle.zorigin.specs.declared.answer.Taken.TheVariants as taken
-use Rattle.zorigin.specs.Ranges.{are_ranges}
 use Rattle.zplan.specs.Positions.{first_of}
 use Rattle.zplan.specs.Ranges.{positions}
-use Rattle.zorigin.specs.Fitting.{IsFitReply, records_in, diagnostics_in}
+use Rattle.zorigin.specs.Fitting.{records_in, diagnostics_in}
 
 -- the facts of records at consecutive positions, the first of them at this position
 abbrev pub seen_from : ℕ → ℕ → ℤ → List Record → List Fact
@@ -65,31 +61,6 @@ facts_by _ _ _ _ = []
 -- the facts of an answer of the target with this number
 abbrev pub facts_of : ℕ → Answer → List Fact
 facts_of target answer = facts_by target answer.asked.set answer.asked.what answer.reply
-
--- the ranges of a Present can be asked for, whatever the set's count is
-abbrev pub has_valid_ranges : What → Bool
-has_valid_ranges (what.Present ranges) = are_ranges ranges
-has_valid_ranges _ = true
-
--- the reply fits its request, and the ranges of a Present can be asked for
-pub record IsFitAnswer (answer : Answer) : Type 0 where
-  pub fits : IsFitReply answer.asked.what answer.reply
-  pub positions : has_valid_ranges answer.asked.what ≡ true
-
--- the answer has this reply, and fits
-abbrev pub IsFitAnswerWith : Apdu → Answer → Type 0
-IsFitAnswerWith reply answer = (answer.reply ≡ reply) × IsFitAnswer answer
-
--- the answer in it, if it has one, has this reply and fits
-abbrev pub HasFitAnswer : Apdu → Taken → Type 0
-HasFitAnswer reply (taken.Opened answer) = IsFitAnswerWith reply answer
-HasFitAnswer reply (taken.Rejected answer) = IsFitAnswerWith reply answer
-HasFitAnswer reply (taken.Answered answer) = IsFitAnswerWith reply answer
-HasFitAnswer reply taken.Closed = Unit {0}
-
--- the ranges of all outstanding Presents can be asked for
-abbrev pub HaveValidRanges : List (ℕ × Asked) → Type 0
-HaveValidRanges outstanding = AllByRecursion (λ (e : ℕ × Asked). has_valid_ranges e.1.what ≡ true) outstanding
 
 -- the records of a response to a search or a Present
 abbrev pub records_of : Apdu → List Record

@@ -3,10 +3,10 @@ use Rattle.std.proofs.lemmas.Int.{ints}
 use Rattle.std.proofs.lemmas.List.{get_or_default, take_min, drop_min}
 use Rattle.zplan.specs.declared.range.Range.{Range}
 use Rattle.zplan.specs.Ranges.{natural}
-use Rattle.zorigin.specs.Facts.{seen_from}
+use Rattle.zorigin_facts.specs.Facts.{seen_from}
 use Rattle.zorigin.proofs.Ranges.{IsGood, good_each, good_in, follows, natural_so}
-use Rattle.zorigin.proofs.Positions.{ranges_step}
-use Rattle.zorigin.proofs.facts.put_seen_in.Goals as goal
+use Rattle.zorigin_facts.proofs.Positions.{ranges_step}
+use Rattle.zorigin_facts.proofs.facts.put_seen_in.Goals as goal
 
 low : (x : Range) → IsGood x → pos 0 ≤ℤ to_z w64 (of_z w64 x.start)
 low x g = omega (arith, ints, g.low, g.some, g.high)

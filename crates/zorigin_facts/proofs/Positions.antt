@@ -8,7 +8,7 @@ use Rattle.zknow.specs.declared.fact.Fact.{Fact}
 use Rattle.zknow.specs.declared.fact.Fact.TheVariants.{Seen}
 use Rattle.zplan.specs.declared.range.Range.{Range}
 use Rattle.zplan.specs.Ranges.{natural, positions}
-use Rattle.zorigin.specs.Facts.{seen_from, seen_at}
+use Rattle.zorigin_facts.specs.Facts.{seen_from, seen_at}
 use Rattle.zorigin.proofs.Ranges.{natural_so, left_more}
 
 enumerated_push : {X : Type 0} (n : ℕ) (xs : List X) (x : X) → enumerate_from n (xs ++ x ∷ []) ≡ enumerate_from n xs ++ (n + length xs, x) ∷ []
