@@ -3,7 +3,7 @@ use Rattle.std.proofs.Common.{◌≡◌, ℕ, ◌-◌, ◌<◌, arith, inl, inr,
 use Rattle.std.proofs.lemmas.List.{take_rest}
 use Rattle.std.specs.Io.KnownBytes.{Appends, Keeps}
 use Rattle.std.proofs.KnownBytes.{Appends-trans, Appends-kept, Appends-nil}
-use Rattle.zoom_io.specs.Devices.{HasAppendedFront, HasFailed}
+use Rattle.zoom_devices.specs.Devices.{HasAppendedFront, HasFailed}
 use Rattle.zmeta_devices.specs.Pieces.{WritePieceResult}
 
 -- a front of the text was written, and the rest was not

@@ -1,7 +1,7 @@
 -- A fault is told, and then, where that is wanted, in words.
 use Rattle.std.proofs.Common.{◌≡◌, ◌∙◌, ◌++◌, Bool, true, refl, inl, inr, subst, sym}
 use Rattle.std.proofs.KnownBytes.{Appends-trans, Appends-kept}
-use Rattle.zoom_io.specs.Devices.{HasFailed}
+use Rattle.zoom_devices.specs.Devices.{HasFailed}
 use Rattle.zmeta_devices.specs.Devices.{Device, HasGained, AfterTell, AfterWords, ShowFaultResult, fault_line}
 use Rattle.zmeta_devices.specs.Explained.{words_line}
 use Rattle.zmeta_devices.specs.declared.fault.Fault.{Fault}

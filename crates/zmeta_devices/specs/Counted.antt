@@ -1,7 +1,7 @@
 -- What writing does to a writer whose failed calls are counted.
 use Rattle.std.specs.Prelude.{◌≡◌, ℕ, List, Option, Bool, true, false, Result, Ok, Err, IfSome}
 use Rattle.std.specs.Io.KnownBytes.{Appends}
-use Rattle.zoom_io.specs.Devices.{DeviceState, HasAppendedFront, HasFailed}
+use Rattle.zoom_devices.specs.Devices.{DeviceState, HasAppendedFront, HasFailed}
 use Rattle.zmeta_devices.specs.declared.counted.Counted.{Counted}
 
 -- the octets that the writer holds, if they are known, and the number of its failed calls

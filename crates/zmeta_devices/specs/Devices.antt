@@ -2,7 +2,7 @@
 use Rattle.std.specs.Prelude.{◌≡◌, ◌⊎◌, ℕ, ◌<◌, List, ◌++◌, Option, is_some, Bool, true, false, if◌then◌else◌, Result, Ok, Err, MatchResult}
 use Rattle.std.specs.Prelude.{IfSome, codes, nat_lt}
 use Rattle.std.specs.Io.KnownBytes.{Keeps, Appends}
-use Rattle.zoom_io.specs.Devices.{HasAppendedFront, HasFailed}
+use Rattle.zoom_devices.specs.Devices.{HasAppendedFront, HasFailed}
 use Rattle.zmeta_devices.specs.Counted.{counted_state}
 use Rattle.zmeta_devices.specs.Faults.{fault_text, end_status}
 use Rattle.zmeta_devices.specs.Explained.{words_line}

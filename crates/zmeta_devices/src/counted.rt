@@ -1,12 +1,12 @@
 //! Writers with the number of their failed calls.
 ghost use Rattle.std.specs.Prelude.{◌≡◌, ◌≤◌, IfSome, length, nat_lt};
-ghost use Rattle.zoom_io.specs.Devices.{next_count, AfterWriteAll};
+ghost use Rattle.zoom_devices.specs.Devices.{next_count, AfterWriteAll};
 ghost use Rattle.zmeta_devices.specs.Counted.{counted_state, WritePiecesResult, AfterShow};
 ghost use Rattle.zmeta_devices.specs.Pieces.{WritePieceResult};
 
 use std::fmt::Display;
 use std::io::{ErrorKind, Write};
-use zoom_io::Failed;
+use zoom_devices::Failed;
 
 /// A writer, and the number of its failed calls. Only a call of the writer that failed raises the number.
 #[derive(Drop)]

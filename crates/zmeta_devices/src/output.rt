@@ -8,7 +8,7 @@ use crate::fault::Fault;
 use std::alloc::Global;
 use std::fmt::Display;
 use std::io::Write;
-use zoom_io::Failed;
+use zoom_devices::Failed;
 
 /// A stream that is written.
 #[derive(Drop)]

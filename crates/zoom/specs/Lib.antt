@@ -11,9 +11,9 @@ pub use Rattle.zoom_clock.specs.declared.action.Action
 pub use Rattle.zoom_clock.specs.declared.action.Task
 pub use Rattle.zoom_io.specs.Answering
 pub use Rattle.zoom_io.specs.Blameless
-pub use Rattle.zoom_io.specs.Devices
+pub use Rattle.zoom_devices.specs.Devices
 pub use Rattle.zoom_io.specs.Pushing
-pub use Rattle.zoom_io.specs.Streams
+pub use Rattle.zoom_devices.specs.Streams
 pub use Rattle.zoom_io.specs.Talking
 pub use Rattle.zoom_io.specs.TalkTraces
 pub use Rattle.zoom_io.specs.TalkSteps

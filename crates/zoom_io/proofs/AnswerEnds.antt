@@ -4,7 +4,7 @@ use Rattle.std.specs.Prelude.{◌||◌}
 use Rattle.std.specs.Io.KnownBytes.{Keeps}
 use Rattle.std.proofs.KnownBytes.{Consumes-kept, Consumes-nil, Appends-nil}
 use Rattle.zoom_pool.specs.Hosts.{HostState, HostAfter, Holdings, HostEvent}
-use Rattle.zoom_io.specs.Devices.{DeviceState, HasFailed, HasNoFailure}
+use Rattle.zoom_devices.specs.Devices.{DeviceState, HasFailed, HasNoFailure}
 use Rattle.zoom_io.specs.declared.replies.AnswerError.{AnswerError}
 use Rattle.zoom_io.specs.declared.replies.AnswerError.TheVariants as errors
 use Rattle.zoom_io.specs.Answering.{HasReleasedAll, HasAnsweredAll, IsReady, IsServed, nothing, Exchange, ReplyStep, AfterReplyAll, AfterReadPiece, AfterAnswer}

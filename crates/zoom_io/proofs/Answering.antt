@@ -4,7 +4,7 @@ use Rattle.std.specs.Io.KnownBytes.{Appends, Consumes}
 use Rattle.std.proofs.KnownBytes.{Consumes-trans, Consumes-nil, Appends-trans, Appends-nil}
 use Rattle.ztarget.specs.Receiving.{may_release}
 use Rattle.zoom_pool.specs.Hosts.{HostState, HostAfter, Holdings, HostEvent, HostFed, HostFedPart, Released, Lost, HostHandedOut, HostRecorded, HasNoReply, ReleaseResult}
-use Rattle.zoom_io.specs.Devices.{DeviceState, HasNoFailure}
+use Rattle.zoom_devices.specs.Devices.{DeviceState, HasNoFailure}
 use Rattle.zoom_io.specs.TalkTraces.{same}
 use Rattle.zoom_io.specs.declared.replies.AnswerError.{AnswerError}
 use Rattle.zoom_io.specs.declared.replies.AnswerError.TheVariants as errors

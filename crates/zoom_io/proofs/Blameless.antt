@@ -1,7 +1,7 @@
 -- After want of memory, no call of a device failed.
 use Rattle.std.proofs.Common.{◌≡◌, ap, ℕ, Bool, Result, Ok, Err, true, false, true≢false}
 use Rattle.zoom_pool.specs.Metas.{MetaLinks}
-use Rattle.zoom_io.specs.Devices.{DeviceState, HasNoFailure}
+use Rattle.zoom_devices.specs.Devices.{DeviceState, HasNoFailure}
 use Rattle.zoom_io.specs.declared.outgoing.PushError.{PushError}
 use Rattle.zoom_io.specs.declared.outgoing.PushError.TheVariants as pushes
 use Rattle.zoom_io.specs.declared.conversation.TalkError.{TalkError}

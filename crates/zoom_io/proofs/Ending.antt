@@ -18,7 +18,7 @@ use Rattle.zoom_pool.specs.Metas.{MetaLinks, MetaAfterPartial, MetaRecorded, Met
 use Rattle.zoom_pool.proofs.Metas.{state_tells}
 use Rattle.zoom_pool.proofs.MetaTakes.{took_within}
 use Rattle.zoom_io.specs.declared.conversation.TalkError.TheVariants as errors
-use Rattle.zoom_io.specs.Devices.{DeviceState, HasFailed, IsUntouched}
+use Rattle.zoom_devices.specs.Devices.{DeviceState, HasFailed, IsUntouched}
 use Rattle.zoom_io.specs.TalkTraces.{ended_well, Stage, Due, Waiting, Over, Ended, IsGoingAt, Talk, TalkStep, HaltedTalk, OutOfMemory, StoppedTalk, BrokenTalk, EndedTalk, CutTalk, AfterTalk, piece_read, input_end, still_partial, take_count, same}
 use Rattle.zoom_io.specs.TalkSteps.{TalkStepAlone}
 use Rattle.zoom_io.specs.declared.conversation.TalkError.{TalkError}

@@ -3,7 +3,6 @@ pub mod Completing
 pub mod Taking
 pub mod Sending
 pub mod Starving
-pub mod Devices
 pub mod Ending
 pub mod LastClose
 pub mod Answering

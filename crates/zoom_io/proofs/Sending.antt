@@ -10,7 +10,7 @@ use Rattle.zoom_pool.specs.Transcripts.{IsTranscript, HandedOut, Stopped, past_o
 use Rattle.zoom_pool.specs.History.{History, events_on}
 use Rattle.zoom_pool.specs.Laws.{OneTranscript}
 use Rattle.zoom_pool.specs.Metas.{MetaLinks, MetaAfterPartial, MetaRecorded, DriveResult, CompleteDrive, call_events, settings_of}
-use Rattle.zoom_io.specs.Devices.{DeviceState, HasAppendedFront, HasFailed}
+use Rattle.zoom_devices.specs.Devices.{DeviceState, HasAppendedFront, HasFailed}
 use Rattle.zoom_io.specs.declared.outgoing.PushError.{PushError}
 use Rattle.zoom_io.specs.declared.outgoing.PushError.TheVariants as pushes
 use Rattle.zoom_io.specs.declared.talk_steps.Receipt.{Receipt}

@@ -10,7 +10,7 @@ use Rattle.zoom_pool.specs.History.{History}
 use Rattle.zoom_pool.specs.Metas.{MetaLinks, MetaAfterPartial, MetaRecorded, MetaIncompleteTake, DriveResult, CompleteDrive, Progress, call_events}
 use Rattle.zoom_pool.proofs.MetaTakes.{more_partial}
 use Rattle.zoom_pool.proofs.Pools.{only_other}
-use Rattle.zoom_io.specs.Devices.{DeviceState}
+use Rattle.zoom_devices.specs.Devices.{DeviceState}
 use Rattle.zoom_io.specs.TalkTraces.{Stage, Due, Listening, Waiting, Talk, TalkStep, StarvedTalkEvents, uncalled, unhanded, untaken, unfed, unended, too_many, HaltedTalk, HaltStep, take_count, same}
 use Rattle.zoom_io.specs.TalkSteps.{HaltStepAlone}
 use Rattle.zoom_io.proofs.OneConnection.{none_both, others_made, others_follow}

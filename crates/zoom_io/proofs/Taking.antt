@@ -25,7 +25,7 @@ use Rattle.zoom_pool.proofs.Pools.{only_same}
 use Rattle.zoom_pool.proofs.Metas.{transcript_at}
 use Rattle.zoom_pool.proofs.MetaTakes.{took_within}
 use Rattle.zoom_io.specs.declared.talk_steps.Receipt.TheVariants as receipts
-use Rattle.zoom_io.specs.Devices.{DeviceState}
+use Rattle.zoom_devices.specs.Devices.{DeviceState}
 use Rattle.zoom_io.specs.TalkTraces.{Stage, Due, Listening, Waiting, Over, IsAtStage, IsNextStep, IsStoppedAt, IsGoingBefore, take_count, TalkTrace, beginning, due_sent, message_taken, none_taken, stop_taken, piece_read, input_end}
 use Rattle.zoom_io.specs.TalkSteps.{AfterTakeMessage, TakingStep, receipt_of}
 use Rattle.zoom_io.proofs.Going.{going_until}

@@ -4,7 +4,7 @@ use Rattle.std.specs.Io.KnownBytes.{Keeps, Appends, Consumes, IsAtEnd}
 use Rattle.zoom_pool.specs.Hosts.{HostState, HostAfter, Holdings, HostEvent, HostFed, HostFedPart, Released, Lost, HostHandedOut, HostRecorded}
 use Rattle.zoom_io.specs.declared.replies.AnswerError.{AnswerError}
 use Rattle.zoom_io.specs.declared.replies.AnswerError.TheVariants as errors
-use Rattle.zoom_io.specs.Devices.{DeviceState, HasAppendedFront, HasFailed, HasNoFailure, IsUntouched}
+use Rattle.zoom_devices.specs.Devices.{DeviceState, HasAppendedFront, HasFailed, HasNoFailure, IsUntouched}
 use Rattle.zoom_io.specs.TalkTraces.{same}
 
 -- ---- what is left to answer

@@ -1,8 +1,9 @@
-pub mod Devices
-pub mod Streams
 pub mod TalkTraces
 pub mod TalkSteps
 pub mod Talking
 pub mod Blameless
 pub mod Pushing
 pub mod Answering
+pub use Rattle.zoom_devices.specs.Devices
+pub use Rattle.zoom_devices.specs.Streams
+pub use Rattle.zoom_devices.specs.declared.stream.Counting

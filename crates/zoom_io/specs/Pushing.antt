@@ -8,7 +8,7 @@ use Rattle.zoom_pool.specs.Transcripts.{HandedOut, Stopped}
 use Rattle.zoom_pool.specs.History.{History}
 use Rattle.zoom_pool.specs.Links.{waiting_at, stop_at}
 use Rattle.zoom_pool.specs.Metas.{MetaLinks, MetaAfterPartial, MetaRecorded}
-use Rattle.zoom_io.specs.Devices.{DeviceState, HasAppendedFront, HasFailed}
+use Rattle.zoom_devices.specs.Devices.{DeviceState, HasAppendedFront, HasFailed}
 use Rattle.zoom_io.specs.declared.outgoing.PushError.{PushError}
 use Rattle.zoom_io.specs.declared.outgoing.PushError.TheVariants as errors
 use Rattle.std.specs.Io.KnownBytes.{Appends}

@@ -10,7 +10,7 @@ use Rattle.zoom_io.specs.declared.talk_steps.Receipt.{Receipt}
 use Rattle.zoom_io.specs.declared.talk_steps.Receipt.TheVariants as receipts
 use Rattle.zoom_io.specs.declared.outgoing.PushError.{PushError}
 use Rattle.zoom_io.specs.declared.outgoing.PushError.TheVariants as errors
-use Rattle.zoom_io.specs.Devices.{DeviceState, HasFailed}
+use Rattle.zoom_devices.specs.Devices.{DeviceState, HasFailed}
 use Rattle.zoom_io.specs.TalkTraces.{Stage, Due, Listening, Waiting, Over, Talk, TalkStep, HaltStep, CompletingStep, BrokenTalk, take_count, same}
 
 -- The receipt of a take that returned this step.

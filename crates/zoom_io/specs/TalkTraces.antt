@@ -17,7 +17,7 @@ use Rattle.zoom_pool.specs.History.{History, events_on}
 use Rattle.zoom_pool.specs.Links.{stop_at}
 use Rattle.zoom_pool.specs.Steering.{errand_of}
 use Rattle.zoom_pool.specs.Metas.{MetaLinks, MetaAfterPartial, IsIdleUnlessStopped, IsSearchTried, call_events, settings_of}
-use Rattle.zoom_io.specs.Devices.{DeviceState, HasAppendedFront, HasFailed, HasNoFailure}
+use Rattle.zoom_devices.specs.Devices.{DeviceState, HasAppendedFront, HasFailed, HasNoFailure}
 use Rattle.zoom_io.specs.declared.conversation.TalkError.{TalkError}
 use Rattle.zoom_io.specs.declared.conversation.TalkError.TheVariants as errors
 

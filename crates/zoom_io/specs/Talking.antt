@@ -13,7 +13,7 @@ use Rattle.zoom_io.specs.declared.outgoing.PushError.{PushError}
 use Rattle.zoom_io.specs.declared.outgoing.PushError.TheVariants as pushes
 use Rattle.zoom_io.specs.declared.conversation.TalkError.{TalkError}
 use Rattle.zoom_io.specs.declared.conversation.TalkError.TheVariants as errors
-use Rattle.zoom_io.specs.Devices.{DeviceState, HasFailed, IsUntouched}
+use Rattle.zoom_devices.specs.Devices.{DeviceState, HasFailed, IsUntouched}
 use Rattle.zoom_io.specs.TalkTraces.{Stage, Due, Waiting, Over, Ended, TalkStep, HaltedTalk, HaltStep, CompletingStep, still_partial, TalkResult, CompletedResult, IsErrorOf, IsStoppedFor, ended_well, same}
 use Rattle.zoom_io.specs.TalkSteps.{TalkStepAlone, WriteFailureStep}
 

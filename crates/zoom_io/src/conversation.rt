@@ -4,18 +4,18 @@ ghost use Rattle.zoom_pool.specs.declared.state.State.TheVariants as states;
 ghost use Rattle.zoom_pool.specs.Links.{stop_at, SameOthers};
 ghost use Rattle.zoom_pool.specs.Metas.{MetaTakeStep, MetaIncompleteTake};
 ghost use Rattle.zoom_io.specs.declared.conversation.TalkError.TheVariants as errors;
-ghost use Rattle.zoom_io.specs.Devices.{HasNoFailure};
+ghost use Rattle.zoom_devices.specs.Devices.{HasNoFailure};
 ghost use Rattle.zoom_io.specs.Pushing.{IsBroken};
 ghost use Rattle.zoom_io.specs.Blameless.{IfPushMemory, IfTalkMemory};
 ghost use Rattle.zoom_io.specs.TalkTraces.{AfterTalk, ended_well, reason_of};
 ghost use Rattle.zoom_io.specs.Talking.{talk_error, AfterSettle, AfterListen, AfterFinish, AfterConverse};
 
-use crate::device::{Sink, Source};
 use crate::outgoing::PushError;
 use crate::talk_steps::{Receipt, send_and_take};
 use std::alloc::{AllocError, Global};
 use std::fmt::{self, Display};
 use thiserror::Error;
+use zoom_devices::{Sink, Source};
 use zoom_pool::laws::{one_input, one_transcript};
 use zoom_pool::{Meta, Reason, State, TakeError};
 

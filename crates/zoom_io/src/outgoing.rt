@@ -2,12 +2,12 @@
 ghost use Rattle.std.specs.Prelude.{◌≡◌, ◌<◌, [], length, OnOk};
 ghost use Rattle.zoom_pool.specs.Links.{waiting_at, SameElse};
 ghost use Rattle.zoom_io.specs.declared.outgoing.PushError.TheVariants as errors;
-ghost use Rattle.zoom_io.specs.Devices.{AfterWriteAll};
+ghost use Rattle.zoom_devices.specs.Devices.{AfterWriteAll};
 ghost use Rattle.zoom_io.specs.Pushing.{AfterPush, IsBroken};
 
-use crate::device::{Failed, Sink};
 use std::alloc::{AllocError, Global};
 use thiserror::Error;
+use zoom_devices::{Failed, Sink};
 use zoom_pool::{Meta, Reason};
 
 /// Why waiting octets were not all written.

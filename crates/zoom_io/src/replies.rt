@@ -3,11 +3,11 @@ ghost use Rattle.std.specs.Prelude.{◌≡◌, ◌||◌};
 ghost use Rattle.zoom_io.specs.declared.replies.AnswerError.TheVariants as errors;
 ghost use Rattle.zoom_io.specs.Answering.{AfterReleaseAll, AfterWriteReplies, AfterReplyAll, AfterReadPiece, AfterAnswer};
 
-use crate::device::{Sink, Source};
 use crate::outgoing::write_all;
 use std::alloc::{AllocError, Global};
 use std::fmt::{self, Display};
 use thiserror::Error;
+use zoom_devices::{Sink, Source};
 use zoom_pool::Host;
 
 /// The most octets of one read.

@@ -1,15 +1,15 @@
 //! The steps of a talk: writing what is due, and taking one message.
 ghost use Rattle.std.specs.Prelude.{◌≡◌, ◌<◌, length, IfOk, OnErr};
 ghost use Rattle.zoom_pool.specs.Links.{SameOthers};
-ghost use Rattle.zoom_io.specs.Devices.{HasNoFailure};
+ghost use Rattle.zoom_devices.specs.Devices.{HasNoFailure};
 ghost use Rattle.zoom_io.specs.Pushing.{IsBroken};
 ghost use Rattle.zoom_io.specs.Blameless.{IfPushMemory};
 ghost use Rattle.zoom_io.specs.TalkTraces.{Listening};
 ghost use Rattle.zoom_io.specs.TalkSteps.{receipt_of, HaltStepAlone, AfterTakeMessage, AfterSendDue, AfterSendAndTake};
 
-use crate::device::Sink;
 use crate::outgoing::{PushError, push};
 use std::alloc::{AllocError, Global};
+use zoom_devices::Sink;
 use zoom_pool::laws::{one_input, one_transcript};
 use zoom_pool::{Meta, Step, TakeError};
 

@@ -3,7 +3,7 @@ use Rattle.std.proofs.Common.{◌≡◌, subst, inr, [], Result, Err}
 use Rattle.zoom_pool.specs.Hosts.{HostState, Holdings, HostAfter}
 use Rattle.zoom_io.specs.declared.replies.AnswerError.{AnswerError}
 use Rattle.zoom_io.specs.declared.replies.AnswerError.TheVariants as answers
-use Rattle.zoom_io.specs.Devices.{DeviceState}
+use Rattle.zoom_devices.specs.Devices.{DeviceState}
 use Rattle.zoom_io.specs.Answering.{AfterAnswer}
 use Rattle.zoom_tcp.specs.Serving.{IsAnswered, IsStarved}
 

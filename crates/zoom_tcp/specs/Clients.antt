@@ -1,7 +1,7 @@
 -- Clients that arrive one after the other.
 use Rattle.std.specs.Prelude.{◌≡◌, ℕ, None}
-use Rattle.zoom_io.specs.Devices.{DeviceState}
-use Rattle.zoom_io.specs.declared.stream.Counting.{Counting}
+use Rattle.zoom_devices.specs.Devices.{DeviceState}
+use Rattle.zoom_io.specs.Counting.{Counting}
 use Rattle.zoom_tcp.specs.declared.clients.TcpClients.{TcpClients}
 use Rattle.zoom_tcp.specs.declared.link.Timed.{Timed}
 use Rattle.zoom_tcp.specs.declared.clients.Arrival.{Arrival}

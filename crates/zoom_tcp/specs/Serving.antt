@@ -3,9 +3,9 @@ use Rattle.std.specs.Prelude.{◌≡◌, ◌⊎◌, ℕ, ◌+◌, ◌<◌, [], R
 use Rattle.zoom_pool.specs.Hosts.{HostState, Holdings}
 use Rattle.zoom_io.specs.declared.replies.AnswerError.{AnswerError}
 use Rattle.zoom_io.specs.declared.replies.AnswerError.TheVariants as answers
-use Rattle.zoom_io.specs.Devices.{DeviceState}
+use Rattle.zoom_devices.specs.Devices.{DeviceState}
 use Rattle.zoom_io.specs.Answering.{ExchangeResult, IsExchangeEnd}
-use Rattle.zoom_io.specs.declared.stream.Counting.{Counting}
+use Rattle.zoom_io.specs.Counting.{Counting}
 use Rattle.zoom_tcp.specs.Clients.{tcp_state, IsTcpArrival, IsTcpDeparture}
 use Rattle.zoom_tcp.specs.declared.clients.Arrival.{Arrival}
 use Rattle.zoom_tcp.specs.declared.clients.Arrival.TheVariants.{Client, Gone, NoClient}

@@ -3,7 +3,7 @@ use Rattle.std.proofs.lemmas.Result.{err_from_is_err_and}
 use Rattle.zoom_io.specs.TalkTraces.{Due}
 use Rattle.zoom_io.specs.Talking.{AfterConverse}
 use Rattle.zoom_io.proofs.Sending.{Begun, begun, BegunPartial, begun_partial}
-use Rattle.zoom_io.specs.Devices.{HasNoFailure}
+use Rattle.zoom_devices.specs.Devices.{HasNoFailure}
 use Rattle.zoom_io.specs.Blameless.{IfTalkMemory}
 use Rattle.zoom_io.proofs.Blameless.{if_talk, push_to_talk, talk_memory, settled_soundly, ended_soundly}
 use Rattle.zoom_io.proofs.Ending.{ends_over, waits_on, waits_whole, ends_unsettled, ends_at_limit, ends_unread, listened_on, listened_partial, ends_finished}

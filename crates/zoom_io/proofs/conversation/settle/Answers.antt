@@ -6,7 +6,7 @@ use Rattle.zoom_io.specs.TalkSteps.{AfterSendAndTake}
 use Rattle.zoom_io.proofs.Sending.{settles_none, settles_more, settles, settles_many, unsettled}
 use Rattle.zoom_io.proofs.Others.{others_none, others_more}
 use Rattle.zoom_io.specs.declared.talk_steps.Receipt.{Receipt}
-use Rattle.zoom_io.specs.Devices.{HasNoFailure}
+use Rattle.zoom_devices.specs.Devices.{HasNoFailure}
 use Rattle.zoom_io.specs.Blameless.{IfPushMemory}
 use Rattle.zoom_io.proofs.Blameless.{push_memory}
 use Rattle.zoom_io.proofs.conversation.settle.Goals as goal

@@ -1,5 +1,5 @@
 use Rattle.zoom_pool.specs.Links.{SameOthers}
-use Rattle.zoom_io.specs.Devices.{DeviceState}
+use Rattle.zoom_devices.specs.Devices.{DeviceState}
 use Rattle.zoom_io.proofs.Sending.{Settling}
 use Rattle.zoom_io.proofs.conversation.settle.Given as goal
 

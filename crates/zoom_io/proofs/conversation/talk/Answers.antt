@@ -2,7 +2,7 @@ use Rattle.std.proofs.Common.{subst, Err}
 use Rattle.zoom_io.specs.Talking.{AfterConverse}
 use Rattle.zoom_io.proofs.Ending.{ends_starved, ends_well, ends_refused}
 use Rattle.zoom_io.proofs.Others.{others_more, else_others}
-use Rattle.zoom_io.specs.Devices.{HasNoFailure}
+use Rattle.zoom_devices.specs.Devices.{HasNoFailure}
 use Rattle.zoom_io.specs.Blameless.{IfTalkMemory}
 use Rattle.zoom_io.proofs.conversation.talk.Goals as goal
 

@@ -1,6 +1,6 @@
 use Rattle.std.proofs.Common.{◌≡◌, ◌∙◌, ◌++◌, ap, subst}
 use Rattle.zoom_pool.specs.Links.{waiting_at}
-use Rattle.zoom_io.specs.Devices.{HasAppendedFront}
+use Rattle.zoom_devices.specs.Devices.{HasAppendedFront}
 use Rattle.zoom_io.proofs.Sending.{write_failed_after}
 use Rattle.zoom_pool.proofs.Pools.{else_more}
 use Rattle.zoom_io.proofs.outgoing.push.Goals as goal

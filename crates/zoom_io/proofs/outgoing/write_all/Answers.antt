@@ -1,5 +1,5 @@
-use Rattle.zoom_io.specs.declared.device.Failed.{Failed}
-use Rattle.zoom_io.proofs.Devices.{more_written}
+use Rattle.zoom_devices.specs.declared.device.Failed.{Failed}
+use Rattle.zoom_devices.proofs.Devices.{more_written}
 use Rattle.zoom_io.proofs.outgoing.write_all.Goals as goal
 
 pub loop-rest-preserved : goal.loop-rest-preserved

@@ -1,5 +1,5 @@
 use Rattle.std.proofs.Common.{length}
-use Rattle.zoom_io.proofs.Devices.{HasWritten}
+use Rattle.zoom_devices.proofs.Devices.{HasWritten}
 use Rattle.zoom_io.proofs.outgoing.write_all.Given as goal
 
 abbrev pub invariant-loop-rest : goal.invariant-loop-rest

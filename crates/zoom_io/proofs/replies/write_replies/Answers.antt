@@ -1,7 +1,7 @@
 use Rattle.std.proofs.Common.{◌≡◌, ◌∙◌, ◌++◌, ap, subst, sym, refl, Err}
 use Rattle.std.proofs.lemmas.Result.{err_from_is_err_and}
 use Rattle.std.specs.Io.KnownBytes.{Appends}
-use Rattle.zoom_io.specs.Devices.{HasAppendedFront}
+use Rattle.zoom_devices.specs.Devices.{HasAppendedFront}
 use Rattle.zoom_io.specs.Answering.{AfterWriteReplies}
 use Rattle.zoom_io.proofs.Answering.{on_handed}
 use Rattle.zoom_io.proofs.replies.write_replies.Goals as goal

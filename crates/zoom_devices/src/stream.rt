@@ -1,7 +1,7 @@
 //! Readers and writers of the standard library as devices: TCP streams, and octets in memory.
 ghost use Rattle.std.specs.Prelude.{◌≡◌};
-ghost use Rattle.zoom_io.specs.Devices.{next_count};
-ghost use Rattle.zoom_io.specs.Streams.{AfterReadAgain, AfterWriteAgain};
+ghost use Rattle.zoom_devices.specs.Devices.{next_count};
+ghost use Rattle.zoom_devices.specs.Streams.{AfterReadAgain, AfterWriteAgain};
 
 use crate::device::{Failed, Sink, Source};
 use std::io::{ErrorKind, Read, Write};

@@ -2,7 +2,7 @@
 //! failures.
 ghost use Rattle.std.specs.Prelude.{◌≡◌, ◌<◌, length, IfOk};
 ghost use Rattle.std.specs.Io.{ReadsAtMost, WritesAtMost};
-ghost use Rattle.zoom_io.specs.Devices.{DeviceState, AfterRead, AfterWrite};
+ghost use Rattle.zoom_devices.specs.Devices.{DeviceState, AfterRead, AfterWrite};
 
 use thiserror::Error;
 

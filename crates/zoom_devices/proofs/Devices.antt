@@ -3,7 +3,7 @@ use Rattle.std.proofs.Common.{◌≡◌, ◌∙◌, sym, ap, ℕ, ◌-◌, List,
 use Rattle.std.specs.Io.KnownBytes.{Keeps, Appends, Consumes}
 use Rattle.std.proofs.KnownBytes.{Appends-trans}
 use Rattle.std.proofs.lemmas.List.{take_rest}
-use Rattle.zoom_io.specs.Devices.{DeviceState, AfterWrite}
+use Rattle.zoom_devices.specs.Devices.{DeviceState, AfterWrite}
 
 -- ---- octets written in several calls
 

@@ -1,5 +1,5 @@
-use Rattle.zoom_io.proofs.Devices.{keeps_consumes}
-use Rattle.zoom_io.proofs.stream.read_again.Goals as goal
+use Rattle.zoom_devices.proofs.Devices.{keeps_consumes}
+use Rattle.zoom_devices.proofs.stream.read_again.Goals as goal
 
 pub returns-in-Ok : goal.returns-in-Ok
 returns-in-Ok g c = record {
