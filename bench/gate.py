@@ -5,11 +5,11 @@
     bench/gate.py CORES [CHECKS]     (as many checks at a time as the Makefile has, if left out)
 
 First `rt ci` starts what is ready, proofs and tests before must-fail edits, and of these what has the most lines behind
-it. Then the wrong bodies of tests/mutants/gate are tried, a crate a task, those with most edits first. Each check has
+it. Then the wrong bodies of tests/mutants/gate are tried, a crate a task, the largest with
+most edits first. Each check has
 one job, and checks share the processors evenly. With -v it prints what goes on beside what. The tests of the program,
 some two minutes, are not in it.
 """
-import os
 import pathlib
 import sys
 
@@ -28,28 +28,21 @@ def crates_of_each():
     return {name: [it for it in words if it in named] for name, words in named.items()}
 
 
-def count_lines(name):
-    found = 0
-    for part in ("src", "specs", "proofs"):
-        for at, _, files in os.walk(TOP / "crates" / name / part):
-            found += sum(pathlib.Path(at, file).read_bytes().count(b"\n") for file in files)
-    return found
-
-
 def tasks(of):
     """Each task of rt ci: what it waits for, its seconds, and its lines; those of a crate after those of the crates below
     it. And each task behind it."""
     made, rows, last = {}, measured.table(), {}
     for name in sorted(of, key=lambda it: len(crates.below([it], of))):
         waits = [(it, "proof") for it in of[name]]
-        made[name, "proof"] = waits, rows[name].seconds("code"), count_lines(name)
+        made[name, "proof"] = waits, rows[name].seconds("code"), crates.size(name)
         if rows[name].seconds("tests"):
-            made[name, "tests"] = waits, rows[name].seconds("tests"), count_lines(name)
+            made[name, "tests"] = waits, rows[name].seconds("tests"), crates.size(name)
         edits = rows[name].seconds("edits")
         if edits and (TOP / f"crates/{name}/must-fail").is_dir():
             made[name, "edits"] = [(name, it) for it in PROOFS if (name, it) in made], edits, 0
         elif edits:
-            last[name, "edits"] = [], edits, len([*(TOP / f"tests/mutants/gate/{name}").glob("*.edit")])
+            count = len([*(TOP / f"tests/mutants/gate/{name}").glob("*.edit")])
+            last[name, "edits"] = [], edits, count * crates.size(name)
     return made, last
 
 

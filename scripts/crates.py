@@ -31,6 +31,12 @@ def below(names, of):
     return found
 
 
+def size(name, top=TOP):
+    """How many lines the code, definitions and proofs of a crate have."""
+    parts = [top / "crates" / name / part for part in ("src", "specs", "proofs")]
+    return sum(file.read_bytes().count(b"\n") for part in parts for file in part.rglob("*.*"))
+
+
 def copy(names, to):
     """Copies the crates of these names and all below them, and their lines of crates.txt, into a folder. It leaves out
     must-fail edits and what `rt` makes. Returns the names of what it copied."""
