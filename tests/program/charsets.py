@@ -1,19 +1,24 @@
 #!/usr/bin/env python3
-"""Asks one server as three catalogues of a file, with and without a charset, and looks how its records are shown.
+"""Asks one server as three catalogues of a file, with and without a charset, and looks how its records are shown; then
+a host for each of the three, of which the first has a text of two lines.
 
     ZMETA=PROGRAM python3 tests/program/charsets.py
 
-The records are in ISO 8859-1, and the leader of the first claims MARC-8. What is due is written out."""
+The records are in ISO 8859-1, and the leader of the first claims MARC-8. What is due is written out, or stands in the
+files `charsets.saved`, `charsets.titles` and the like."""
 
+import base64
 import json
 import os
+import shutil
 import subprocess
 import sys
 import tempfile
 
-from peers import connected, free_port
-from saved import MARC21, SUTRS
+from peers import ACCEPTED, CLOSE, connected, counted, free_port, shown, silent, threaded
+from saved import MARC21, SUTRS, record
 
+FILES = os.path.join(os.path.dirname(os.path.abspath(__file__)), "files")
 # seconds
 END = 60
 # each catalogue is asked by each view, and by the list
@@ -23,6 +28,7 @@ VIEWS = ("--titles", "--fields", "--json", "--html", "list")
 LEADER = "00083nam  22000491a 4500"
 MARC = f"{LEADER}245002400000260000900024\x1e10\x1faCaf\xe9 cr\xe8me /\x1fc\xc9mile\x1e  \x1fc1965\x1e\x1d"
 TEXT = "d\xe9j\xe0 vu: le r\xeave"
+RECORDS = (MARC21, MARC), (SUTRS, TEXT)
 
 # The title, the maker and the text, as each catalogue has them.
 READ = {
@@ -36,13 +42,12 @@ DECLARED = dict.fromkeys(READ, READ["b"])
 
 def world():
     """The world file of the server."""
-    records = (MARC21, MARC), (SUTRS, TEXT)
-    return "target t 65536 cn\ndb d\n" + "".join(f'rec {it} "{octets}"\nfield 4 "dune"\n' for it, octets in records)
+    return "target t 65536 cn\ndb d\n" + "".join(f'rec {it} "{octets}"\nfield 4 "dune"\n' for it, octets in RECORDS)
 
 
-def file_of_catalogues(port):
-    return "".join(f'[{name}]\naddress = "127.0.0.1:{port}"\ndatabase = "d"\n{charset}'
-                   for name, charset in CATALOGUES.items())
+def file_of_catalogues(addresses):
+    return "".join(f'[{name}]\naddress = "{address}"\ndatabase = "d"\n{charset}'
+                   for (name, charset), address in zip(CATALOGUES.items(), addresses))
 
 
 def head():
@@ -66,21 +71,33 @@ def fields(read):
                   of_record)
 
 
-def told(printed):
-    """What lines of JSON tell of each MARC record: its catalogue, its title and who made it."""
-    rows = [json.loads(it) for it in printed.splitlines()]
-    return {it["catalogue"]: (it["title"], it["author"]) for it in rows if "title" in it}
+def objects(read):
+    """The lines of JSON: the records have their octets as they came."""
+    lines = [{"type": "count", "catalogue": name, "set": 1, "count": 2} for name in read]
+    for position, (syntax, octets) in enumerate(RECORDS, 1):
+        for name, (title, maker, _) in read.items():
+            where = {"type": "record", "catalogue": name, "set": 1, "position": position, "syntax": syntax}
+            fields = {"year": "1965", "title": title, "author": maker} if syntax == MARC21 else {}
+            coded = base64.b64encode(octets.encode("latin-1")).decode()
+            lines.append({**where, "database": "d", **fields, "octets": coded})
+    return "".join(json.dumps(it, ensure_ascii=False, separators=(",", ":")) + "\n" for it in lines)
 
 
 def cells(printed):
     """How many records of a page have the title and the maker of the first catalogue."""
     title, maker, _ = READ["a"]
-    return printed.count(f'<td role="cell">{title}<details>'), printed.count(f'<td role="cell">{maker}</td>')
+    row = f'<td role="cell">1965</td><td role="cell">{title}<details><summary>Fields</summary>'
+    return printed.count(row), printed.count(f'<td role="cell">{maker}</td>')
 
 
 def ran(zmeta, room, *words):
     it = subprocess.run([zmeta, *words], capture_output=True, cwd=room, timeout=END)
     return it.returncode, it.stdout, it.stderr.decode()
+
+
+def octets_at(room, name):
+    with open(os.path.join(room, name), "rb") as file:
+        return file.read()
 
 
 def fault(what, found, due):
@@ -95,7 +112,7 @@ def faults_of_views(zmeta, room):
     text = {it: octets.decode() for it, (_, octets, _) in printed.items()}
     yield from fault("titles", text["--titles"], titles(READ))
     yield from fault("fields", text["--fields"], fields(READ))
-    yield from fault("JSON", told(text["--json"]), {name: it[:2] for name, it in READ.items()})
+    yield from fault("JSON", text["--json"], objects(READ))
     yield from fault("page", cells(text["--html"]), (1, 1))
     rows = [it.split('"', 2)[2] for it in text["list"].splitlines() if it[:2] == "1 "]
     yield from fault("list", (len(rows), len(set(rows))), (3, 1))
@@ -103,13 +120,44 @@ def faults_of_views(zmeta, room):
                      (0, titles(DECLARED).encode(), ""))
 
 
+def gives(*records):
+    """A host that finds and gives these records."""
+    listed = [record(syntax, octets.encode("latin-1")) for syntax, octets in records]
+    replies = ACCEPTED, counted(len(listed)), shown(2, listed, len(listed) + 1), CLOSE
+    return lambda link: silent(link, *replies)
+
+
+def faults_of_hosts(zmeta, room):
+    """What is not as the files have it of a host for each catalogue."""
+    held = []
+    marc, text = (MARC21, MARC), (SUTRS, TEXT.replace(": ", "\n"))
+    addresses = [threaded(gives(*it), held) for it in ((marc, text), (marc,), (marc,))]
+    with open(os.path.join(room, "charset-hosts.toml"), "w", encoding="utf-8") as file:
+        file.write(file_of_catalogues(addresses))
+    ask = "ask", "charset-hosts.toml", "--title", "dune"
+    for view in ("titles", "fields", "json"):
+        printed = ran(zmeta, room, *ask, "--" + view, "--save", "charset-hosts.saved")
+        yield from fault(f"hosts, {view}", printed, (0, octets_at(room, "charsets." + view), ""))
+    kept = octets_at(room, "charset-hosts.saved")
+    yield from fault("hosts, saved", kept, octets_at(room, "charsets.saved"))
+    yield from fault("hosts, page", cells(ran(zmeta, room, *ask, "--html")[1].decode()), (1, 1))
+    for it in held:
+        it.close()
+
+
 def faults(zmeta, room):
     """What is not as it should be."""
+    yield from faults_of_server(zmeta, room)
+    yield from faults_of_hosts(zmeta, room)
+
+
+def faults_of_server(zmeta, room):
+    """What is not as it should be of one server."""
     port = free_port()
     with open(os.path.join(room, "charsets.world"), "w", encoding="latin-1") as file:
         file.write(world())
     with open(os.path.join(room, "charsets.toml"), "w", encoding="utf-8") as file:
-        file.write(file_of_catalogues(port))
+        file.write(file_of_catalogues([f"127.0.0.1:{port}"] * len(CATALOGUES)))
     # one connection waits until the server listens
     count = str(1 + len(CATALOGUES) * len(VIEWS))
     words = [zmeta, "serve", f"127.0.0.1:{port}", "t", "charsets.world", count]
@@ -126,7 +174,8 @@ def faults(zmeta, room):
 
 def main():
     with tempfile.TemporaryDirectory() as room:
-        found = faults(os.path.abspath(os.environ["ZMETA"]), room)
+        shutil.copytree(FILES, room, dirs_exist_ok=True)
+        found = [*faults(os.path.abspath(os.environ["ZMETA"]), room)]
     print(*found, sep="\n")
     return 1 if found else 0
 

@@ -7,7 +7,9 @@ of command lines with rows and with its help.
 
 A row has the words of a command line, with `|` between them, and the input behind `<`. Behind `=>` stand the status,
 standard output and standard error, with `>` between them. `%` and two digits stand for one octet, `=FILE` for the
-octets of that file, `-` for none. One more `>` is followed by a file that the run makes, and one with the same octets.
+octets of that file, `-` for none, `0x` and digits for octets, `facts` for a saved file of the names and facts behind
+it. One more `>` is followed by a file that the run makes, and one with the same octets; `<` has those of standard
+input.
 A row of words has the status behind `=>`, and the beginning of the text: on standard output if the status is 0, else on
 standard error. A row of `full` begins with the stream that fails. The files are those of tests/program/files, and
 `folder` is a folder."""
@@ -29,12 +31,14 @@ import html_pages
 import json_lines
 import joining
 import large
+import listed
 import marc_made
 import marc_views
 import merging
 import names
 import opac_views
 import replies
+import saved
 import saving
 import served
 import stops
@@ -54,7 +58,10 @@ COPIED = 5000
 JSON_WORLDS, JSON_FACTS = 3000, 20000
 SEED = 1
 # the tables of rows, but those of completions
-TABLES = "show pqf catalogues conversions join new records worlds search json help full explained words".split()
+TABLES = (
+    "show pqf catalogues conversions join saved views copies stops new records worlds search json help full explained "
+    "words"
+).split()
 
 
 def octets_of(name):
@@ -69,6 +76,10 @@ def unescaped(text):
 def meant(text):
     if text == "-":
         return b""
+    if text.startswith("0x"):
+        return bytes.fromhex(text[2:])
+    if text.startswith("facts "):
+        return saved.of_rows(text[6:])
     return octets_of(text[1:]) if text.startswith("=") else unescaped(text)
 
 
@@ -97,7 +108,7 @@ def fault_of_row(room, row):
     for it in made:
         name, like = it.split("=")
         with open(os.path.join(room, name), "rb") as file:
-            if file.read() != octets_of(like):
+            if file.read() != (given if like == "<" else octets_of(like)):
                 return f"{row}\n    {name} is another file"
     return None
 
@@ -203,6 +214,8 @@ def main():
         print(f"program: records of {2 * extracting.CASES} sets of saved files")
         faults += joining.faults(ZMETA)
         print(f"program: lists of {2 * joining.CASES} sets of saved files")
+        faults += listed.faults(ZMETA)
+        print(f"program: lists of {listed.FACTS} facts in parts of {len(listed.SIZES)} sizes")
         faults += large.faults(ZMETA, room)
         print(f"program: large input of {len(large.COMMANDS)} commands")
         faults += [it for it in (fault_of_view(room, *it) for it in views.files()) if it]

@@ -6,7 +6,7 @@ import base64
 import marc_model
 import saved
 
-OPAC = "1.2.840.10003.5.102"
+OPAC = saved.OPAC
 
 # The fields of each production: tag, kind, and the name of its member in JSON, in the order of the standard
 VOLUME = ((1, "text", "enumeration"), (2, "text", "chronology"), (3, "text", "enumAndChron"))

@@ -5,6 +5,7 @@ MARC21 = "1.2.840.10003.5.10"
 UNIMARC = "1.2.840.10003.5.1"
 SUTRS = "1.2.840.10003.5.101"
 XML = "1.2.840.10003.5.109.10"
+OPAC = "1.2.840.10003.5.102"
 BIB1 = "1.2.840.10003.4.1"
 # kinds of facts
 COUNT, FAILED, SEEN, DIAG = range(4)
@@ -81,3 +82,28 @@ def fact(kind, target, number, place=None, rest=b""):
 def of_facts(names, facts):
     """A saved file of names and of facts, each as the parts of `fact`."""
     return named(names) + b"".join(fact(*it) for it in sorted(set(facts)))
+
+
+def element_of(word):
+    """The element that a word names: digits; `opac:` and the digits of an OPAC record; or of two octets, a record of
+    them in MARC 21."""
+    if word.startswith("opac:"):
+        return retrieved(OPAC, element(b"\xa0", bytes.fromhex(word[5:])))
+    return record(MARC21, word.encode()) if len(word) == 2 else bytes.fromhex(word)
+
+
+def of_row(row):
+    """The fact of a row: its kind, target and set, then the count, or the position or place and the element. The row of
+    a failure ends with a dash."""
+    kind, target, number, *rest = row.split(" ")
+    where = int(target), int(number)
+    if kind == "failed":
+        return FAILED, *where
+    place, words = int(rest[0]), rest[1:]
+    return {"count": COUNT, "seen": SEEN, "diag": DIAG}[kind], *where, place, *(element_of(it) for it in words)
+
+
+def of_rows(text):
+    """A saved file of names with a space between each two and, behind `; ` each, of the facts of rows."""
+    names, *rows = text.split("; ")
+    return of_facts(names.split(" ") if names else [], [of_row(it) for it in rows])
