@@ -1,10 +1,9 @@
-// What is known: facts in every order, twice, absorbed and copied; two values at one place; the printed list.
+// What is known: facts in every order, twice, absorbed and copied; two values at one place.
 use crate::facts::{add, copy_of, has_facts, is_at, is_count, knowledge_of, nothing};
-use crate::reference::{Noted, list, note};
 use std::alloc::{AllocError, Global};
 use std::process::Abort;
 use std::test::Fail;
-use zber_rows::rows::{each_row, halves, is_true, pair, spells, unescape};
+use zber_rows::rows::{each_row, halves, is_true, pair, unescape};
 use zber_rows::unread::Unread;
 use zknow::{Knowledge, Mode};
 use zknow_rows::shown::{has_list, is_listed};
@@ -79,36 +78,12 @@ pub(crate) fn add_in_order(
     Ok(())
 }
 
-fn note_at(
-    alloc: Global,
-    facts: &mut Vec<Noted>,
-    rows: &[&str],
-    place: usize,
-) -> Result<(), Unread> {
-    match rows.get(place) {
-        Some(row) => note(alloc, facts, row),
-        None => Err(Unread),
-    }
-}
-
-// Whether the reference has the list.
-fn is_noted(alloc: Global, rows: &[&str], places: &[usize], due: &str) -> bool {
-    let mut facts = Vec::new(alloc);
-    for place in places {
-        if note_at(alloc, &mut facts, rows, *place).is_err() {
-            return false;
-        }
-    }
-    spells(list(alloc, &["a"], facts.as_slice()), due.as_bytes())
-}
-
 fn is_list_of(alloc: Global, rows: &[&str], places: &[usize], due: &str) -> bool {
     let Ok(mut knowledge) = nothing(alloc) else {
         return false;
     };
     add_in_order(alloc, &mut knowledge, rows, places).is_ok()
         && is_listed(alloc, &knowledge, "a", Mode::Text, due)
-        && is_noted(alloc, rows, places, due)
 }
 
 // Whether rows have the list in the order of this number.
@@ -329,57 +304,6 @@ diag 0 1 0 301006072a8648ce13040102010e1a026869
 diag 0 1 0 28048102686a
 diag 1 1 0 300e06072a8648ce13040102010d1a00
 ";
-
-const LINES: &str = r#"target "a" set 1 count 7
-target "a" set 1 failed
-target "a" set 1 diag 0 ber 28048102686a
-target "a" set 1 diag 0 1.2.840.10003.4.1 14 "hi"
-target "a" set 1 diag 4 1.2.840.10003.4.1 13 "hi"
-target "a" set 2 count 3
-target "b\"\\" set 1 diag 0 1.2.840.10003.4.1 13 ""
-target #2 set 0 failed
-1 "a" 1 rec 1.2.840.10003.5.10 - "\x0a\xff"
-1 "a" 2 diag "d" 1.2.840.10003.4.1 238 "\"\\"
-1 "b\"\\" 1 ber 3005a103830161
-2 "a" 1 ber 300ca10aa1082806020105810161
-3 "a" 1 rec 1.2.840.10003.5.10 "d" "\"\\"
-3 #2 1 rec 1.2.840.10003.5.10 "d" ""
-"#;
-
-// The lines of records' octets, quoted and in hexadecimal.
-const QUOTED: &str = r#"1 "a" 1 rec 1.2.840.10003.5.10 - "\x0a\xff"
-3 "a" 1 rec 1.2.840.10003.5.10 "d" "\"\\"
-"#;
-
-const DIGITS: &str = r#"1 "a" 1 rec 1.2.840.10003.5.10 - 0aff
-3 "a" 1 rec 1.2.840.10003.5.10 "d" 225c
-"#;
-
-const OCTETS: &str = "\
-seen 0 1 3 3016800164a111a10f280d06072a8648ce13050a8102225c
-seen 0 1 1 3013a111a10f280d06072a8648ce13050a81020aff
-";
-
-// Whether facts have the list.
-fn are_listed(alloc: Global, rows: &str, names: &str, mode: Mode, due: &str) -> bool {
-    let Ok(knowledge) = knowledge_of(alloc, rows) else {
-        return false;
-    };
-    is_listed(alloc, &knowledge, names, mode, due)
-}
-
-#[test]
-fn each_kind_of_fact_has_its_line(rt: HostRuntime) -> Result<(), Fail> {
-    assert!(rt; are_listed(rt.alloc(), MIXED, "a b%22%5c", Mode::Text, LINES));
-    Ok(())
-}
-
-#[test]
-fn octets_are_quoted_or_in_hexadecimal(rt: HostRuntime) -> Result<(), Fail> {
-    assert!(rt; are_listed(rt.alloc(), OCTETS, "a", Mode::Text, QUOTED));
-    assert!(rt; are_listed(rt.alloc(), OCTETS, "a", Mode::Hex, DIGITS));
-    Ok(())
-}
 
 // Facts in fact order: counts, failures, records, diagnostics.
 const SORTED: &str =

@@ -1,69 +1,39 @@
-// OPAC records, worked out by hand from Z39.50-2003, Appendix REC, and one that the encoder of YAZ wrote: the lines of
-// their copies, and elements that are none.
+// OPAC records, worked out by hand from Z39.50-2003, Appendix REC: elements that are built again, and elements that are
+// none.
 use std::alloc::Global;
 use std::process::Abort;
 use std::test::Fail;
 use zasn::{PartError, Parts, Production};
 use zber::{Body, Node};
-use zber_rows::rows::{each_row, element, encoding, halves, pair, tells};
+use zber_rows::rows::{each_row, element, encoding, pair, tells};
 use zber_rows::unread::Unread;
-use zopac::{Circulation, HoldingsAndCirc, OpacRecord, Volume, opac_node, put_copies, read_opac};
+use zopac::{Circulation, HoldingsAndCirc, OpacRecord, Volume, opac_node, read_opac};
 
-// Records, and the lines of their copies, each behind `|`.
-pub(crate) const SHOWN: &str = "\
+// Records.
+const BUILT: &str = "\
 # Two copies with a bibliographic record: one that is lent, and one that is there, whose date is not shown.
 3081efa16806072a8648ce13050a815d30303039336e616d2020323230303034393161203435303032343530303334303030303032363030303930\
 30303033341e31301f6144756e65206d657373696168202f1f634672616e6b20486572626572741e20201f63313936351e1da28182a244890c4d61\
 696e206c6962726172798a095265666572656e63658b0851413736202e48338d01329103762e33b3173015810100820a323032362d31322d303186\
 01ff8701ffa23a880447794d428b0851413736202e48338e0f41736b20617420746865206465736bb31730158101ff820a323032362d31322d3031\
-8601ff870100 => |Main library, Reference: QA76 .H3, copy 2, v.3; not available, until 2026-12-01, on hold|GyMB: QA76 .\
-H3; Ask at the desk; available
+8601ff870100
 # A record of nothing; one with an empty list of copies.
 3000
 3002a200
 # Volumes, of which one is empty, and two items.
 304da24ba24989064272616e6368b21d300b8103762e31820431393939300c830a762e32202832303030293000b320300e8101ff8601ff87010088\
-03762e31300e8101008601ff8701ff8803762e32 => |Branch; v.1, 1999; v.2 (2000); v.1: available; v.2: not available, on hold
+03762e31300e8101008601ff8701ff8803762e32
 # Copies of which nothing is said: of nothing, of empty lists, of an empty call number and an empty volume.
-3012a210a200a204b200b300a2068b00b2023000 => |copy without details|copy without details|copy without details
+3012a210a200a204b200b300a2068b00b2023000
 # Numbers of copies that have the word, which then stands once.
-301da21ba2088d06436f70792031a2078d05434f505932a2068d04634f7079 => |Copy 1|COPY2|copy cOpy
+301da21ba2088d06436f70792031a2078d05434f505932a2068d04634f7079
 # Controls, a character that turns the direction of text, and what is no UTF-8.
-3018a216a21489071b5b324a610a628b03e280ae8d01ff8e0100 => |\u{fffd}[2Ja b: \u{fffd}, copy \u{fffd}; \u{fffd}
+3018a216a21489071b5b324a610a628b03e280ae8d01ff8e0100
 # Records of MARC in place of fields: with a title, and one that is no record.
 307aa278a16806072a8648ce13050a815d30303039336e616d20203232303030343931612034353030323435303033343030303030323630303039\
 3030303033341e31301f6144756e65206d657373696168202f1f634672616e6b20486572626572741e20201f63313936351e1da10c06072a8648ce\
-13050a810178 => |MARC holdings record: Dune messiah / Frank Herbert|MARC holdings record
+13050a810178
 ";
-
-// The same of a record that the encoder of YAZ wrote: all fields, indefinite lengths, and TRUE as 01.
-pub(crate) const ENCODED: &str = "\
-3080a12506072a8648ce13050a811a30303034316e616d202032323030303337316120343530301e1da280a2808101758201558301618401308501\
-3286013087063030303030308807732d464d2f4743890c4d61696e206c6962726172798a095265666572656e63658b0851413736202e48338c0273\
-648d01328e0a62696720766f6c756d658f02726e900274759103762e33b21e300b8103762e31820431393939300f8103762e328308762e32203230\
-3030b3533030810100820a323032362d31322d303183036c696284046e6f6e658501318601008701018803762e3189026d738a02746c301f810101\
-83036c696284046e6f6e6585013186010087010089026d738a02746c0000a20889064272616e6368a10f06072a8648ce13050a81046d6172630000\
-0000 => |Main library, Reference, s-FM/GC: QA76 .H3, copy 2, v.3; v.1, 1999; v.2, v.2 2000; big volume; v.1: not avail\
-able, until 2026-12-01, on hold; available|Branch|MARC holdings record
-";
-
-// The lines of a record's copies, each behind `|`.
-fn lines_of(alloc: Global, record: &OpacRecord) -> Result<String, Unread> {
-    let mut lines = String::new(alloc);
-    if put_copies(alloc, record, &mut lines).is_err() {
-        return Err(Unread);
-    }
-    let mut text = String::new(alloc);
-    for line in lines.as_str().lines() {
-        let Ok(()) = text.push('|') else {
-            return Err(Unread);
-        };
-        let Ok(()) = text.push_str(line) else {
-            return Err(Unread);
-        };
-    }
-    Ok(text)
-}
 
 // Whether the record's element is built again, with the lengths of the canonical encoding.
 fn is_built(alloc: Global, node: &Node, record: &OpacRecord) -> Result<bool, Unread> {
@@ -76,26 +46,8 @@ fn is_built(alloc: Global, node: &Node, record: &OpacRecord) -> Result<bool, Unr
     }
 }
 
-fn is_shown(alloc: Global, row: &str) -> Result<bool, Unread> {
-    let (digits, due) = halves(row);
-    let Ok(node) = element(alloc, digits) else {
-        return Err(Unread);
-    };
-    match read_opac(alloc, &node) {
-        Ok(record) => Ok(tells(lines_of(alloc, &record), due)),
-        Err(_) => Err(Unread),
-    }
-}
-
-#[test]
-fn copies_are_shown(rt: HostRuntime) -> Result<(), Fail> {
-    each_row(rt.alloc(), SHOWN, is_shown)?;
-    each_row(rt.alloc(), ENCODED, is_shown)
-}
-
 fn is_read_back(alloc: Global, row: &str) -> Result<bool, Unread> {
-    let (digits, _) = halves(row);
-    let Ok(node) = element(alloc, digits) else {
+    let Ok(node) = element(alloc, row) else {
         return Err(Unread);
     };
     match read_opac(alloc, &node) {
@@ -106,11 +58,11 @@ fn is_read_back(alloc: Global, row: &str) -> Result<bool, Unread> {
 
 #[test]
 fn records_are_built_again(rt: HostRuntime) -> Result<(), Fail> {
-    each_row(rt.alloc(), SHOWN, is_read_back)
+    each_row(rt.alloc(), BUILT, is_read_back)
 }
 
 // Elements that are none, and how many of their parts stand before the first that is at fault.
-pub(crate) const REFUSED: &str = "\
+const REFUSED: &str = "\
 # OPACRecord: copies before the bibliographic record, another part behind, a part twice, another tag.
 opac 3004a200a100 1
 opac 3006a200a3028100 1
@@ -184,7 +136,7 @@ fn other_elements_are_refused_at_their_first_fault(rt: HostRuntime) -> Result<()
 }
 
 // Elements of another tag, and a primitive one.
-pub(crate) const OTHERS: &str = "\
+const OTHERS: &str = "\
 3100
 1000
 a000

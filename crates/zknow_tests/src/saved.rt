@@ -1,4 +1,4 @@
-// Saved files, worked out by hand and by a reader of another kind: what is read and written alike, and what is refused.
+// Saved files: one with each other value of each of its octets, and the largest elements that are saved.
 use crate::facts::knowledge_of;
 use bytes::Bytes;
 use std::alloc::{AllocError, Global};
@@ -6,7 +6,7 @@ use std::process::Abort;
 use std::test::Fail;
 use zapdu_rows::boxes::box_value;
 use zber::Seq;
-use zber_rows::rows::{each_row, octets, pair, spells};
+use zber_rows::rows::octets;
 use zber_rows::unread::Unread;
 use zknow::{Knowledge, LoadError, Names, SaveError, load, save};
 
@@ -18,22 +18,6 @@ fn save_octets(alloc: Global, knowledge: &Knowledge, names: &Names) -> Result<Ve
     }
 }
 
-// Files: nothing known; a name, and two; a count; the highest target; two counts of a set; a failure; a record; a
-// diagnostic; a count and a failure; a record, a surrogate diagnostic and a fragment.
-const FILES: &str = "\
-a400
-a403800161
-a406800161800162
-a403800161a009800100810101820104
-a400a00d800500ffffffff810101820104
-a400a009800100810101820103a009800100810101820104
-a400a106800103810100
-a400a21e8001008101018201013013a111a10f280d06072a8648ce13050a81027231
-a400a319800101810100820100300e06072a8648ce13040102010d1a00
-a403800161a009800100810101820105a106800100810102
-a403800161a21e8001008101018201013013a111a10f280d06072a8648ce13050a81027232a21f8001008101018201023014a112a210300e06072a8648ce13040102010e1a00a2138001008101018201033008a106a30404027233
-";
-
 // What a file says, or why it says nothing.
 pub(crate) type Loaded = Result<(Knowledge, Names), LoadError>;
 
@@ -41,114 +25,11 @@ pub(crate) fn load_octets(alloc: Global, file: &[u8]) -> Result<Box<Loaded>, All
     box_value(alloc, load(alloc, file))
 }
 
-// Whether the file of what a file says is that file.
-fn is_written(alloc: Global, loaded: &Loaded, file: &[u8]) -> bool {
-    match loaded {
-        Ok((knowledge, names)) => spells(save_octets(alloc, knowledge, names), file),
-        Err(_) => false,
-    }
-}
-
-fn is_file(alloc: Global, row: &str) -> Result<bool, Unread> {
-    let Ok(file) = octets(alloc, row) else {
-        return Err(Unread);
-    };
-    let Ok(loaded) = load_octets(alloc, file.as_slice()) else {
-        return Err(Unread);
-    };
-    Ok(is_written(alloc, &loaded, file.as_slice()))
-}
-
-#[test]
-fn files_are_read_and_written_alike(rt: HostRuntime) -> Result<(), Fail> {
-    each_row(rt.alloc(), FILES, is_file)
-}
-
-// Places and files: nothing at all; an end mark; half a header; another element; a fact in the place of names; a name
-// cut off, one in parts, one with another tag; a fact cut off, twice; a negative count; a failure with a count; a count
-// without one; a target above 32 bits, a negative one; names again; an end mark after a fact; position 0; no record;
-// place -1; a record's octets in segments of which one is a UTF8String.
-const NOT_KNOWLEDGE: &str = "\
-0 -
-0 00
-0 30
-0 3000
-0 a009800100810101820104
-0 a404800161
-0 a405a003040161
-0 a403810161
-1 a400a106800100
-1 a400a1068001008101
-1 a400a0098001008101018201ff
-1 a400a109800100810101820104
-1 a400a006800100810101
-1 a400a00d80050100000000810101820104
-1 a400a0098001ff810101820104
-1 a400a400
-2 a400a00980010081010182010400
-1 a400a21e8001008101018201003013a111a10f280d06072a8648ce13050a81027231
-1 a400a20c800100810101820101020101
-1 a400a3198001018101008201ff300e06072a8648ce13040102010d1a00
-1 a400a2228001008101018201013017a115a113281106072a8648ce13050aa1060401720c0131
-";
-
-// Lengths of names not shortest, once with an end mark behind; a target not shortest; a fact below the one before, and
-// one as high; a failure before a count; a record's length not shortest; a record and a diagnostic with a string in
-// segments.
-const NOT_CANONICAL: &str = "\
-0 a48100
-0 a4800000
-1 a400a00a80020000810101820104
-2 a400a009800101810101820100a009800100810101820104
-2 a400a009800100810101820104a009800100810101820104
-2 a400a106800100810100a009800100810101820104
-1 a400a21f800100810101820101308113a111a10f280d06072a8648ce13050a81027231
-1 a400a2228001008101018201013017a115a113281106072a8648ce13050aa106040172040131
-1 a400a319800101810101820100300e06072a8648ce13040102010d3a00
-";
-
 fn is_for(loaded: &Loaded, due: LoadError) -> bool {
     match loaded {
         Ok(_) => false,
         Err(error) => *error == due,
     }
-}
-
-// Whether a file is refused for this.
-fn is_refused(alloc: Global, file: &str, due: LoadError) -> Result<bool, Unread> {
-    let Ok(file) = octets(alloc, file) else {
-        return Err(Unread);
-    };
-    let Ok(loaded) = load_octets(alloc, file.as_slice()) else {
-        return Err(Unread);
-    };
-    Ok(is_for(&loaded, due))
-}
-
-fn is_no_knowledge(alloc: Global, row: &str) -> Result<bool, Unread> {
-    let (at, file) = pair(row);
-    let Ok(at) = at.parse::<usize>() else {
-        return Err(Unread);
-    };
-    is_refused(alloc, file, LoadError::NotKnowledge { at })
-}
-
-#[test]
-fn what_is_no_knowledge_is_refused(rt: HostRuntime) -> Result<(), Fail> {
-    each_row(rt.alloc(), NOT_KNOWLEDGE, is_no_knowledge)
-}
-
-fn is_not_canonical(alloc: Global, row: &str) -> Result<bool, Unread> {
-    let (at, file) = pair(row);
-    let Ok(at) = at.parse::<usize>() else {
-        return Err(Unread);
-    };
-    is_refused(alloc, file, LoadError::NotCanonical { at })
-}
-
-#[test]
-fn what_is_not_canonical_is_refused(rt: HostRuntime) -> Result<(), Fail> {
-    each_row(rt.alloc(), NOT_CANONICAL, is_not_canonical)
 }
 
 // A file with two names and a fact of each kind.

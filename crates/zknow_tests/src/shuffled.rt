@@ -1,15 +1,16 @@
 // Facts of few keys, so that many meet, in orders of no kind in particular and joined from parts: their list is that of
-// the reference.
-use crate::facts::nothing;
+// the facts as they were drawn. tests/program/listed.py has the same facts.
+use crate::facts::{knowledge_of, nothing};
 use crate::known::add_in_order;
-use crate::reference::{facts_of, list};
+use bytes::Bytes;
 use std::alloc::{AllocError, Global};
 use std::process::Abort;
 use std::test::Fail;
+use zber::Seq;
 use zber_rows::dice::Dice;
 use zber_rows::rows::each_row;
 use zber_rows::unread::Unread;
-use zknow::{Knowledge, Mode};
+use zknow::{Knowledge, Mode, Names, print_list};
 use zknow_rows::shown::has_list;
 
 // Records: three with the octets of one syntax, one of them twice in different lengths; a surrogate diagnostic, a
@@ -124,38 +125,39 @@ fn has_list_of_parts(
 // How many facts at a time are known apart.
 const SIZES: &str = "400\n200\n90\n13\n2\n1\n";
 
-fn list_of(alloc: Global, rows: &[&str]) -> Result<Vec<u8>, Unread> {
-    let Ok(facts) = facts_of(alloc, rows) else {
-        return Err(Unread);
-    };
-    list(alloc, &["a", "b"], facts.as_slice())
+fn names(alloc: Global) -> Result<Names, AllocError> {
+    let mut names = Vec::new(alloc);
+    for name in ["a", "b"] {
+        names.push(Bytes::from_vec(name.as_bytes().to_vec(alloc)?)?)?;
+    }
+    Ok(Seq::from_vec(names))
 }
 
-fn has_list_of_list(
-    alloc: Global,
-    dice: &mut Dice,
-    rows: &[&str],
-    size: usize,
-) -> Result<bool, Unread> {
-    match list_of(alloc, rows) {
-        Ok(due) => has_list_of_parts(alloc, dice, rows, size, due.as_slice()),
-        Err(error) => Err(error),
+// The list of the facts of a table, one added behind the other.
+fn list_of(alloc: Global, table: &str) -> Result<Vec<u8>, Unread> {
+    let knowledge = knowledge_of(alloc, table)?;
+    let names = names(alloc)?;
+    let mut out = Vec::new(alloc);
+    match print_list(alloc, &knowledge, &names, Mode::Text, &mut out) {
+        Ok(()) => Ok(out),
+        Err(_) => Err(Unread),
     }
 }
 
-fn have_list_of_reference(alloc: Global, row: &str) -> Result<bool, Unread> {
+fn have_one_list(alloc: Global, row: &str) -> Result<bool, Unread> {
     let mut dice = Dice::new(1);
-    let Ok(table) = table(alloc, &mut dice, 400) else {
-        return Err(Unread);
-    };
+    let table = table(alloc, &mut dice, 400)?;
+    let due = list_of(alloc, table.as_str())?;
     let rows: Result<Vec<&str>, AllocError> = table.as_str().lines().collect(alloc);
     match (rows, row.parse::<usize>()) {
-        (Ok(rows), Ok(size)) => has_list_of_list(alloc, &mut dice, rows.as_slice(), size),
+        (Ok(rows), Ok(size)) => {
+            has_list_of_parts(alloc, &mut dice, rows.as_slice(), size, due.as_slice())
+        }
         _ => Err(Unread),
     }
 }
 
 #[test]
-fn facts_in_any_order_have_the_list_of_the_reference(rt: HostRuntime) -> Result<(), Fail> {
-    each_row(rt.alloc(), SIZES, have_list_of_reference)
+fn facts_in_any_order_have_one_list(rt: HostRuntime) -> Result<(), Fail> {
+    each_row(rt.alloc(), SIZES, have_one_list)
 }

@@ -1,9 +1,14 @@
-// Catalogues that stopped: whole views and whole texts of JSON, worked out by hand.
-use crate::json::has_lines;
-use crate::titles::has_view;
+// Catalogues that stopped in ways that no trace tells: whole views and whole texts of JSON behind a text, worked out by
+// hand.
+use crate::saved::{Loaded, load_octets};
+use std::alloc::Global;
 use std::process::Abort;
 use std::test::Fail;
+use zber_rows::rows::{is_true, spells};
+use zber_rows::unread::Unread;
+use zknow_json::print_json;
 use zknow_stops::{Detail, Stop};
+use zknow_titles::print_titles;
 
 // A saved file, why connections stopped, and the view and the lines of JSON that are wanted.
 type Vector = (
@@ -13,111 +18,53 @@ type Vector = (
     &'static str,
 );
 
-// Each detail.
-const EACH: [Option<Stop>; 13] = [
-    Some(Stop {
-        reason: "Connect",
-        detail: Detail::NoPort,
-    }),
-    Some(Stop {
-        reason: "Connect",
-        detail: Detail::NoName,
-    }),
-    Some(Stop {
-        reason: "Connect",
-        detail: Detail::NoFamily,
-    }),
-    Some(Stop {
-        reason: "Connect",
-        detail: Detail::Refused,
-    }),
-    Some(Stop {
-        reason: "Connect",
-        detail: Detail::NoRoute,
-    }),
-    Some(Stop {
-        reason: "Connect",
-        detail: Detail::NoAnswer { seconds: 30 },
-    }),
-    Some(Stop {
-        reason: "Read",
-        detail: Detail::Silent { seconds: 3600 },
-    }),
-    Some(Stop {
-        reason: "Ended",
-        detail: Detail::HungUp,
-    }),
-    Some(Stop {
-        reason: "Write",
-        detail: Detail::Reset,
-    }),
-    Some(Stop {
-        reason: "TagMismatch",
-        detail: Detail::NotZ3950,
-    }),
-    Some(Stop {
-        reason: "UnknownReference",
-        detail: Detail::Unfit,
-    }),
-    Some(Stop {
-        reason: "Turns",
-        detail: Detail::TooMany,
-    }),
-    Some(Stop {
-        reason: "Memory",
-        detail: Detail::NoMemory,
-    }),
-];
-
-// Each detail, of catalogues of which nothing is known.
+// A catalogue of which nothing is known, and that stopped as no trace can tell.
 const ALONE: Vector = (
     b"\xa4\x00",
-    &EACH,
-    "\
-    #0: not reached (the address has no port)\n\
-    #1: not reached (no such name)\n\
-    #2: not reached (no address of that family)\n\
-    #3: not reached (refused)\n\
-    #4: not reached (no route)\n\
-    #5: not reached (no answer in 30 s)\n\
-    #6: silent for 3600 s\n\
-    #7: hung up\n\
-    #8: reset\n\
-    #9: sent what is no Z39.50\n\
-    #10: sent an answer that fits no request\n\
-    #11: sent too much\n\
-    #12: no memory was found for it\n",
-    "\
-    {\"type\":\"stopped\",\"catalogueNumber\":0,\"reason\":\"Connect\",\"detail\":\"the address has no p\
-    ort\"}\n\
-    {\"type\":\"stopped\",\"catalogueNumber\":1,\"reason\":\"Connect\",\"detail\":\"no such name\"}\n\
-    {\"type\":\"stopped\",\"catalogueNumber\":2,\"reason\":\"Connect\",\"detail\":\"no address of that f\
-    amily\"}\n\
-    {\"type\":\"stopped\",\"catalogueNumber\":3,\"reason\":\"Connect\",\"detail\":\"refused\"}\n\
-    {\"type\":\"stopped\",\"catalogueNumber\":4,\"reason\":\"Connect\",\"detail\":\"no route\"}\n\
-    {\"type\":\"stopped\",\"catalogueNumber\":5,\"reason\":\"Connect\",\"detail\":\"no answer in 30 s\"}\
-    \n\
-    {\"type\":\"stopped\",\"catalogueNumber\":6,\"reason\":\"Read\",\"detail\":\"silent for 3600 s\"}\n\
-    {\"type\":\"stopped\",\"catalogueNumber\":7,\"reason\":\"Ended\",\"detail\":\"hung up\"}\n\
-    {\"type\":\"stopped\",\"catalogueNumber\":8,\"reason\":\"Write\",\"detail\":\"reset\"}\n\
-    {\"type\":\"stopped\",\"catalogueNumber\":9,\"reason\":\"TagMismatch\",\"detail\":\"sent what is no \
-    Z39.50\"}\n\
-    {\"type\":\"stopped\",\"catalogueNumber\":10,\"reason\":\"UnknownReference\",\"detail\":\"sent an an\
-    swer that fits no request\"}\n\
-    {\"type\":\"stopped\",\"catalogueNumber\":11,\"reason\":\"Turns\",\"detail\":\"sent too much\"}\n\
-    {\"type\":\"stopped\",\"catalogueNumber\":12,\"reason\":\"Memory\",\"detail\":\"no memory was found \
-    for it\"}\n",
+    &[Some(Stop {
+        reason: "Memory",
+        detail: Detail::NoMemory,
+    })],
+    "#0: no memory was found for it\n",
+    "{\"type\":\"stopped\",\"catalogueNumber\":0,\"reason\":\"Memory\",\"detail\":\"no memory was found for it\"}\n",
 );
 
-// Each detail, of catalogues of which a count is known.
+// Catalogues of which a count is known, and that were not reached, or stopped as no trace can tell.
 const KNOWN: Vector = (
     b"\xa4\x00\xa0\x09\x80\x01\x00\x81\x01\x01\x82\x01\x00\xa0\x09\x80\x01\x01\x81\x01\x01\x82\x01\x01\xa0\
     \x09\x80\x01\x02\x81\x01\x01\x82\x01\x02\xa0\x09\x80\x01\x03\x81\x01\x01\x82\x01\x03\xa0\x09\x80\x01\
     \x04\x81\x01\x01\x82\x01\x04\xa0\x09\x80\x01\x05\x81\x01\x01\x82\x01\x05\xa0\x09\x80\x01\x06\x81\x01\
-    \x01\x82\x01\x06\xa0\x09\x80\x01\x07\x81\x01\x01\x82\x01\x07\xa0\x09\x80\x01\x08\x81\x01\x01\x82\x01\
-    \x08\xa0\x09\x80\x01\x09\x81\x01\x01\x82\x01\x09\xa0\x09\x80\x01\n\x81\x01\x01\x82\x01\n\xa0\x09\x80\
-    \x01\x0b\x81\x01\x01\x82\x01\x0b\xa0\x09\x80\x01\x0c\x81\x01\x01\x82\x01\x0c",
-    &EACH,
+    \x01\x82\x01\x0c",
+    &[
+        Some(Stop {
+            reason: "Connect",
+            detail: Detail::NoPort,
+        }),
+        Some(Stop {
+            reason: "Connect",
+            detail: Detail::NoName,
+        }),
+        Some(Stop {
+            reason: "Connect",
+            detail: Detail::NoFamily,
+        }),
+        Some(Stop {
+            reason: "Connect",
+            detail: Detail::Refused,
+        }),
+        Some(Stop {
+            reason: "Connect",
+            detail: Detail::NoRoute,
+        }),
+        Some(Stop {
+            reason: "Connect",
+            detail: Detail::NoAnswer { seconds: 30 },
+        }),
+        Some(Stop {
+            reason: "Memory",
+            detail: Detail::NoMemory,
+        }),
+    ],
     "\
     #0: 0 found, 0 shown\n\
     #0: not reached (the address has no port)\n\
@@ -131,13 +78,7 @@ const KNOWN: Vector = (
     #4: not reached (no route)\n\
     #5: 5 found, 0 shown\n\
     #5: not reached (no answer in 30 s)\n\
-    #6: 6 found, 0 shown; then silent for 3600 s\n\
-    #7: 7 found, 0 shown; then hung up\n\
-    #8: 8 found, 0 shown; then reset\n\
-    #9: 9 found, 0 shown; then sent what is no Z39.50\n\
-    #10: 10 found, 0 shown; then sent an answer that fits no request\n\
-    #11: 11 found, 0 shown; then sent too much\n\
-    #12: 12 found, 0 shown; then no memory was found for it\n",
+    #6: 12 found, 0 shown; then no memory was found for it\n",
     "\
     {\"type\":\"count\",\"catalogueNumber\":0,\"set\":1,\"count\":0}\n\
     {\"type\":\"count\",\"catalogueNumber\":1,\"set\":1,\"count\":1}\n\
@@ -145,13 +86,7 @@ const KNOWN: Vector = (
     {\"type\":\"count\",\"catalogueNumber\":3,\"set\":1,\"count\":3}\n\
     {\"type\":\"count\",\"catalogueNumber\":4,\"set\":1,\"count\":4}\n\
     {\"type\":\"count\",\"catalogueNumber\":5,\"set\":1,\"count\":5}\n\
-    {\"type\":\"count\",\"catalogueNumber\":6,\"set\":1,\"count\":6}\n\
-    {\"type\":\"count\",\"catalogueNumber\":7,\"set\":1,\"count\":7}\n\
-    {\"type\":\"count\",\"catalogueNumber\":8,\"set\":1,\"count\":8}\n\
-    {\"type\":\"count\",\"catalogueNumber\":9,\"set\":1,\"count\":9}\n\
-    {\"type\":\"count\",\"catalogueNumber\":10,\"set\":1,\"count\":10}\n\
-    {\"type\":\"count\",\"catalogueNumber\":11,\"set\":1,\"count\":11}\n\
-    {\"type\":\"count\",\"catalogueNumber\":12,\"set\":1,\"count\":12}\n\
+    {\"type\":\"count\",\"catalogueNumber\":6,\"set\":1,\"count\":12}\n\
     {\"type\":\"stopped\",\"catalogueNumber\":0,\"reason\":\"Connect\",\"detail\":\"the address has no p\
     ort\"}\n\
     {\"type\":\"stopped\",\"catalogueNumber\":1,\"reason\":\"Connect\",\"detail\":\"no such name\"}\n\
@@ -161,43 +96,8 @@ const KNOWN: Vector = (
     {\"type\":\"stopped\",\"catalogueNumber\":4,\"reason\":\"Connect\",\"detail\":\"no route\"}\n\
     {\"type\":\"stopped\",\"catalogueNumber\":5,\"reason\":\"Connect\",\"detail\":\"no answer in 30 s\"}\
     \n\
-    {\"type\":\"stopped\",\"catalogueNumber\":6,\"reason\":\"Read\",\"detail\":\"silent for 3600 s\"}\n\
-    {\"type\":\"stopped\",\"catalogueNumber\":7,\"reason\":\"Ended\",\"detail\":\"hung up\"}\n\
-    {\"type\":\"stopped\",\"catalogueNumber\":8,\"reason\":\"Write\",\"detail\":\"reset\"}\n\
-    {\"type\":\"stopped\",\"catalogueNumber\":9,\"reason\":\"TagMismatch\",\"detail\":\"sent what is no \
-    Z39.50\"}\n\
-    {\"type\":\"stopped\",\"catalogueNumber\":10,\"reason\":\"UnknownReference\",\"detail\":\"sent an an\
-    swer that fits no request\"}\n\
-    {\"type\":\"stopped\",\"catalogueNumber\":11,\"reason\":\"Turns\",\"detail\":\"sent too much\"}\n\
-    {\"type\":\"stopped\",\"catalogueNumber\":12,\"reason\":\"Memory\",\"detail\":\"no memory was found \
+    {\"type\":\"stopped\",\"catalogueNumber\":6,\"reason\":\"Memory\",\"detail\":\"no memory was found \
     for it\"}\n",
-);
-
-// A catalogue that hung up behind a record, and one that was not reached.
-const TWO: Vector = (
-    b"\xa4\x0d\x80\x04city\x80\x05abbey\xa0\x09\x80\x01\x00\x81\x01\x01\x82\x01\x0c\xa2\x1e\x80\x01\x00\
-    \x81\x01\x01\x82\x01\x010\x13\xa1\x11\xa1\x0f(\x0d\x06\x08*\x86H\xce\x13\x05m\n\x81\x01x",
-    &[
-        Some(Stop {
-            reason: "Ended",
-            detail: Detail::HungUp,
-        }),
-        Some(Stop {
-            reason: "Connect",
-            detail: Detail::NoName,
-        }),
-    ],
-    "\
-    city: 12 found, 1 shown; then hung up\n\
-    abbey: not reached (no such name)\n\
-    \n\
-    \x20 1  city        XML, 1 octets\n",
-    "\
-    {\"type\":\"count\",\"catalogue\":\"city\",\"set\":1,\"count\":12}\n\
-    {\"type\":\"stopped\",\"catalogue\":\"city\",\"reason\":\"Ended\",\"detail\":\"hung up\"}\n\
-    {\"type\":\"stopped\",\"catalogue\":\"abbey\",\"reason\":\"Connect\",\"detail\":\"no such name\"}\n\
-    {\"type\":\"record\",\"catalogue\":\"city\",\"set\":1,\"position\":1,\"syntax\":\"1.2.840.10003.5.10\
-    9.10\",\"octets\":\"eA==\"}\n",
 );
 
 // Two sets of one that stopped, one set of one that did not, an association that failed, and no entry.
@@ -332,20 +232,56 @@ const NONE: Vector = (
     {\"type\":\"count\",\"catalogue\":\"b\",\"set\":1,\"count\":3}\n",
 );
 
-// Each file gives its view.
-#[test]
-fn views_of_stops(rt: HostRuntime) -> Result<(), Fail> {
-    for (file, stops, due, _) in [ALONE, KNOWN, TWO, SETS, PLACES, HEAD, HOSTILE, NONE] {
-        assert!(rt; has_view(rt.alloc(), file, stops, "", due), "{due}");
+// Names, and nothing that is known.
+const NOTHING: Vector = (b"\xa4\x06\x80\x01a\x80\x01b", &[], "", "");
+
+// The view, or the lines of JSON, of what a file says, behind a text.
+fn behind(
+    alloc: Global,
+    loaded: &Loaded,
+    stops: &[Option<Stop>],
+    is_json: bool,
+) -> Result<Vec<u8>, Unread> {
+    let Ok((knowledge, names)) = loaded else {
+        return Err(Unread);
+    };
+    let mut out = b"before".to_vec(alloc)?;
+    let printed = if is_json {
+        print_json(alloc, knowledge, names, &[], stops, &mut out)
+    } else {
+        print_titles(alloc, knowledge, names, &[], stops, &mut out)
+    };
+    match printed {
+        Ok(()) => Ok(out),
+        Err(_) => Err(Unread),
     }
-    Ok(())
 }
 
-// Each file gives its lines.
+// Whether these are appended to a text.
+fn appends(
+    alloc: Global,
+    file: &[u8],
+    stops: &[Option<Stop>],
+    is_json: bool,
+    due: &str,
+) -> Result<bool, Unread> {
+    let loaded = load_octets(alloc, file)?;
+    let due = format!(in alloc; "before{due}")?;
+    Ok(spells(behind(alloc, &loaded, stops, is_json), due.as_bytes()))
+}
+
+// Each file gives its view and its lines.
 #[test]
-fn lines_of_stops(rt: HostRuntime) -> Result<(), Fail> {
-    for (file, stops, _, due) in [ALONE, KNOWN, TWO, SETS, PLACES, HEAD, HOSTILE, NONE] {
-        assert!(rt; has_lines(rt.alloc(), file, stops, "", due), "{due}");
+fn views_and_lines_of_stops(rt: HostRuntime) -> Result<(), Fail> {
+    for (file, stops, view, lines) in [ALONE, KNOWN, SETS, PLACES, HEAD, HOSTILE, NONE, NOTHING] {
+        assert!(rt;
+            is_true(appends(rt.alloc(), file, stops, false, view)),
+            "{view}"
+        );
+        assert!(rt;
+            is_true(appends(rt.alloc(), file, stops, true, lines)),
+            "{lines}"
+        );
     }
     Ok(())
 }
