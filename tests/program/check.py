@@ -1,18 +1,17 @@
 #!/usr/bin/env python3
-"""Runs the program on rows, whole views, worlds, mutilated records, large input, hosts, a terminal, and streams that
-fail or are slow, talks to its server, replays traces, and compares what it prints with what is due; and the completions
-of command lines with rows and with its help.
+"""Runs the program on rows, whole views, worlds, mutilated records, large input, hosts, a terminal, and streams, files
+and a clock that fail, or streams that are slow, talks to its server, replays traces, and compares what it prints with
+what is due; and the completions of command lines with rows and with its help.
 
     python3 tests/program/check.py       (once the program is built; ZMETA may name another build)
 
 A row has the words of a command line, with `|` between them, and the input behind `<`. Behind `=>` stand the status,
 standard output and standard error, with `>` between them. `%` and two digits stand for one octet, `=FILE` for the
 octets of that file, `-` for none, `0x` and digits for octets, `facts` for a saved file of the names and facts behind
-it. One more `>` is followed by a file that the run makes, and one with the same octets; `<` has those of standard
-input.
-A row of words has the status behind `=>`, and the beginning of the text: on standard output if the status is 0, else on
-standard error. A row of `full` begins with the stream that fails. The files are those of tests/program/files, and
-`folder` is a folder."""
+it. One more `>` is followed by a file that the run makes, and one with the same octets, `<` for those of standard
+input, or `-` if it makes none; no other file is made. A row of words has the status behind `=>`, and the beginning of
+the text: on standard output if the status is 0, else on standard error. A row of `full` begins with the stream that
+fails, one of `devices` with the call. The files are those of tests/program/files, and `folder` is a folder."""
 
 import os
 import re
@@ -25,6 +24,7 @@ from concurrent.futures import ThreadPoolExecutor
 import changes
 import charsets
 import completions
+import devices
 import extracting
 import hosts
 import html_pages
@@ -59,14 +59,20 @@ JSON_WORLDS, JSON_FACTS = 3000, 20000
 SEED = 1
 # the tables of rows, but those of completions
 TABLES = (
-    "show pqf catalogues conversions join saved views copies stops new records worlds search json help full explained "
-    "words"
+    "show pqf catalogues conversions join saved views copies stops new records worlds search json traces help full "
+    "devices explained words"
 ).split()
+# the streams of which a row begins with one that fails
+STREAMS = "stdin", "stdout", "stderr", "both"
+
+
+def content(path):
+    with open(path, "rb") as file:
+        return file.read()
 
 
 def octets_of(name):
-    with open(os.path.join(FILES, name), "rb") as file:
-        return file.read()
+    return content(os.path.join(FILES, name))
 
 
 def unescaped(text):
@@ -101,22 +107,33 @@ def fault_of_row(room, row):
     line, _, given = line.partition(" < ")
     status, printed, told, *made = due.split(" > ")
     front, *words = line.split("|")
-    given = meant(given) if given else b""
-    found = run(room, words, given) if front == "zmeta" else streams.failing(ZMETA, room, front, words, given)
+    words, given = [*map(unescaped, words)], meant(given) if given else b""
+    if front == "zmeta":
+        found = run(room, words, given)
+    else:
+        found = (streams if front in STREAMS else devices).failing(ZMETA, room, front, words, given)
     if found != (int(status), meant(printed), meant(told)):
         return f"{row}\n    {found}"
     for it in made:
         name, like = it.split("=")
-        with open(os.path.join(room, name), "rb") as file:
-            if file.read() != (given if like == "<" else octets_of(like)):
-                return f"{row}\n    {name} is another file"
+        path = os.path.join(room, name)
+        there = content(path) if os.path.exists(path) else None
+        if there != (None if like == "-" else given if like == "<" else octets_of(like)):
+            return f"{row}\n    {name} is not as is due: {there}"
     return None
+
+
+def unnamed(room, rows):
+    """Files that no row names, and no run makes for itself."""
+    words = {word.rpartition("=")[2] for row in rows for word in row.split(" => ")[0].split("|")}
+    known = {*os.listdir(FILES), "folder", devices.SHIM}
+    return [f"the file {it} is made" for it in sorted(os.listdir(room)) if it not in known | words]
 
 
 def fault_of_words(room, row):
     line, due = row.split(" => ", 1)
     status, _, front = due.partition(" ")
-    found = run(room, line.split("|")[1:], octets_of("close.hex"))
+    found = run(room, map(unescaped, line.split("|")[1:]), octets_of("close.hex"))
     text, other = found[1:] if status == "0" else found[:0:-1]
     if found[0] != int(status) or not text.startswith(unescaped(front)) or other:
         return f"{row}\n    {found}"
@@ -173,11 +190,13 @@ def main():
     with tempfile.TemporaryDirectory() as room, ThreadPoolExecutor(len(os.sched_getaffinity(0))) as pool:
         shutil.copytree(FILES, room, dirs_exist_ok=True)
         os.mkdir(os.path.join(room, "folder"))
+        devices.make_shim(room)
         for table in TABLES:
             look = fault_of_words if table == "words" else fault_of_row
             rows = rows_of(table)
             faults += [it for it in pool.map(lambda row: look(room, row), rows) if it]
             print(f"program: {len(rows)} rows of {table}")
+        faults += unnamed(room, [row for table in TABLES for row in rows_of(table)])
         rows = rows_of("completions")
         faults += completions.faults(run, room, rows)
         print(f"program: {len(rows)} rows of completions")
@@ -199,6 +218,8 @@ def main():
         print(f"program: {len(charsets.VIEWS)} views of records in charsets of a file")
         faults += streams.faults(ZMETA, room)
         print("program: long texts over slow streams")
+        faults += devices.faults(ZMETA, room)
+        print("program: input of an octet a read")
         faults += stops.faults(ZMETA, room)
         print(f"program: {len(stops.HOSTS)} hosts that stop, in the view and in JSON")
         found, count = traces.faults(ZMETA, room)

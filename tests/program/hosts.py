@@ -104,6 +104,7 @@ ROWS = (
     ((), (1, OTHER[0] + REFUSES + ONE[0] + OTHER[1] + ONE[1], 'zmeta: target "nobody": Connect\n')),
     (("--only", "one", "--only", "other"), (0, OTHER[0] + ONE[0] + OTHER[1] + ONE[1], "")),
     (("--only", "one"), (0, ONE[0] + ONE[1], "")),
+    (("--only", "one", "--hex"), (0, ONE[0] + ONE[1].replace('"r1"', "7231"), "")),
     (("--only", "refuses"), (1, REFUSES, "")),
 )
 

@@ -35,6 +35,13 @@ ASKED = (
     ["join", "empty", "empty"],
     ["join", "many.saved", "many.saved"],
 )
+# words that print the page of one record, and its heading
+HEADED = (
+    (["join", "--html", "count.saved", "record.saved"], "What the catalogues answered"),
+    (["join", "count.saved", "--heading", "x y", "record.saved", "--html"], "x y"),
+    (["new", "count.saved", "record.saved", "--html"], "What is new, changed or gone"),
+    (["new", "count.saved", "--heading", "x y", "record.saved", "--html"], "x y"),
+)
 # how many records the last has, each at a position of its own, and how many rows are in each block
 MANY, BLOCKS = 120, [50, 50, 20]
 # What is wanted behind the style sheet of these. In `readers` one of three catalogues has records, of which two differ
@@ -221,6 +228,13 @@ def faults_by_hand(zmeta, room):
         yield f"page of marks.saved: what is marked is\n{found}"
 
 
+def fault_of_heading(zmeta, room, words, heading):
+    status, text, told = shown(zmeta, room, words)
+    page = Page(text)
+    found = status, told, page.texts["h1"], page.texts["title"], len(page.records)
+    return None if found == (0, "", heading, heading, 1) else f"{found}"
+
+
 def faults(zmeta, room):
     """What is not as it should be of the pages."""
     yield from faults_by_hand(zmeta, room)
@@ -231,6 +245,10 @@ def faults(zmeta, room):
         fault = fault_of(zmeta, room, words)
         if fault:
             yield f"page of {' '.join(words)}: {fault}"
+    for words, heading in HEADED:
+        fault = fault_of_heading(zmeta, room, words, heading)
+        if fault:
+            yield f"heading of {' '.join(words)}: {fault}"
 
 
 def main():

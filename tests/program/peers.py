@@ -415,10 +415,15 @@ def received(link, count):
 Run = namedtuple("Run", "hosts at_once answer begun taken")
 
 
+def quoted(name):
+    """A name as lines of world files, of the list and of failures have it."""
+    return '"' + name.replace('"', '\\"') + '"'
+
+
 def world_of(hosts):
     """A world file, with the hosts in another order than their questions."""
-    lines = [f'host "{it.name}" "{it.address}"\n' for it in reversed(hosts)]
-    return "".join(lines + [f'ask "{it.name}" d - {it.want} "\\"{it.term}\\""\n' for it in hosts])
+    lines = [f'host {quoted(it.name)} "{it.address}"\n' for it in reversed(hosts)]
+    return "".join(lines + [f'ask {quoted(it.name)} d - {it.want} "\\"{it.term}\\""\n' for it in hosts])
 
 
 def answer_due(hosts):

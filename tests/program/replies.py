@@ -22,7 +22,8 @@ from functools import partial
 
 from peers import (
     ACCEPTED, BOTH, CLOSE, END, INIT, Asker, Host, all_together, broken_off, counted, faults_of_answer, init_reply,
-    listening, narrow, non_surrogate, one_by_one, operation, present_at, reading_late, reset_in_advance, search_for,
+    listening, narrow, non_surrogate, one_by_one, operation, present_at, quoted, reading_late, reset_in_advance,
+    search_for,
 )
 from saved import (
     BIB1, COUNT, DIAG, FAILED, MARC21, SEEN, diagnostic, element, integer, of_facts, record, surrogate,
@@ -221,6 +222,7 @@ BAD = [
     broken("nothing", "BadShape", TWO, given(1), requests="I S 1x1 2x1", known=[count(2)]),
     broken("a part", "BadShape", TWO, listed(requested(1), 1, [PART]), requests="I S 1x1 2x1", known=[count(2)]),
     broken("ended", "Ended", TWO, ONE, requests="I S 1x1 2x1", known=all_seen(2, [1]), give=broken_off),
+    broken('a "b', "Ended", give=broken_off, term="b"),
     Row("reset", [], "I", [], "Read", reset_in_advance),
     Row("closing", [CLOSE], "I", []),
     broken("closing later", "", TWO, ONE, CLOSE, requests="I S 1x1 2x1", known=all_seen(2, [1])),
@@ -259,14 +261,14 @@ class Replying(Host):
 
 
 def list_due(rows):
-    lines = [f'target "{row.name}" {text}\n' for row in rows for _, position, text in row.known if position is None]
+    lines = [f"target {quoted(row.name)} {text}\n" for row in rows for _, at, text in row.known if at is None]
     every = [(position, at, text) for at, row in enumerate(rows) for _, position, text in row.known]
     placed = sorted(it for it in every if it[0] and it[2])
-    return "".join(lines + [f'{position} "{rows[at].name}" 1 {text}\n' for position, at, text in placed])
+    return "".join(lines + [f"{position} {quoted(rows[at].name)} 1 {text}\n" for position, at, text in placed])
 
 
 def told_due(rows):
-    return "".join(f'zmeta: target "{row.name}": {row.told}\n' for row in rows if row.told)
+    return "".join(f"zmeta: target {quoted(row.name)}: {row.told}\n" for row in rows if row.told)
 
 
 def saved_due(rows):

@@ -1,10 +1,11 @@
 #!/usr/bin/env python3
 """Has hosts asked with a trace, and replays it: the same is printed, told and saved, and the status is the same. Then
-cuts and damages traces, and replays those of examples/traces.
+cuts and damages traces, replays those of examples/traces, and compares heads of traces with what was asked.
 
     ZMETA=PROGRAM python3 tests/program/traces.py"""
 
 import asyncio
+import json
 import os
 import random
 import re
@@ -18,6 +19,7 @@ from concurrent.futures import ThreadPoolExecutor
 
 import hosts
 from hosts import AT_ONCE, BOTH, EVERY, IN_ORDER, Trials, four_hosts, hosts_of
+from saved import of_facts
 
 HERE = os.path.dirname(os.path.abspath(__file__))
 EXAMPLES = os.path.join(os.path.dirname(os.path.dirname(HERE)), "examples/traces")
@@ -46,6 +48,21 @@ CASES = (
     ("whole whole", ("--query", '@attr 1=4 "du\\"ne"', "--syntax", "-")),
     ("", ()),
 )
+# Words of `ask`, its world, and what its trace has before the first connection: texts, and numbers of seconds.
+ONE = "host b 127.0.0.1:1\nask b d - 1 dune\n"
+TWO = 'host a h\nhost "b c" h\nask a d - 1 dune\nask "b c" d - 1 dune\n'
+IN_TURN, TOGETHER = ("manner", "inOrder"), ("manner", "atOnce")
+LIMITS = ("connect", 30), ("patience", 30), ("total", 3600)
+HEADS = (
+    ("WORLD", ONE, IN_TURN, *LIMITS),
+    ("WORLD|--query|x|--only|b", ONE, ("query", "x"), ("only", "b"), IN_TURN, *LIMITS),
+    ("--only|a|WORLD|--at-once|--only|b c", TWO, ("only", "a"), ("only", "b c"), TOGETHER, *LIMITS),
+    ("WORLD|--patience|2|--within|1800", ONE, IN_TURN, ("connect", 2), ("patience", 2), ("total", 1800)),
+    ("WORLD|--connect|3|--within|86400|-4", ONE, IN_TURN, ("connect", 3), ("patience", 30), ("total", 86400)),
+    ("WORLD|--records|1-3|--elements|F|--syntax|xml", ONE, ("records", "1-3"), ("elements", "F"), ("syntax", "xml"),
+     IN_TURN, *LIMITS),
+)
+TEXTS = "world query records elements syntax only".split()
 # the options that replay has too
 PRINTED = ("--titles", "--json", "--fields", "--html", "--hex", "--explain")
 
@@ -233,6 +250,29 @@ async def collected(found):
     return [it async for it in found]
 
 
+def entry_of(key, value):
+    """An entry of a head, without its time."""
+    if key in TEXTS:
+        return {key: value.encode().hex()}
+    return {key: value if isinstance(value, str) else value * 10**9}
+
+
+def faults_of_heads(zmeta, room):
+    """What is not as it should be of heads of traces, and of the saved files beside them."""
+    for words, world, *said in HEADS:
+        make(os.path.join(room, "headed.world"), world.encode())
+        words = ["headed.world" if it == "WORLD" else it for it in words.split("|")]
+        run(zmeta, room, "ask", *words, "--trace", "headed.trace", "--save", "headed.saved")
+        lines = [json.loads(it) for it in octets_at(os.path.join(room, "headed.trace")).splitlines()]
+        found = [{key: it[key] for key in it if key != "at"} for it in lines if not {"connection", "report"} & set(it)]
+        due = [{"version": 1}, entry_of("world", world), *(entry_of(*it) for it in said)]
+        if found != due:
+            yield f"traces: the head of {words}: {found}\n    {due} is due"
+        names = ["b"] if world == ONE else ["a", "b c"]
+        if octets_at(os.path.join(room, "headed.saved")) != of_facts(names, []):
+            yield f"traces: the file that {words} save"
+
+
 def faults_of_examples(zmeta, room):
     """What is not as it should be of the traces that are kept as examples, beside what was printed and told, with its
     status."""
@@ -257,8 +297,9 @@ def faults(zmeta, room):
     found += faults_of_damage(zmeta, room, path)
     found += faults_of_killed(zmeta, room)
     found += asyncio.run(collected(faults_of_full(zmeta, room)))
+    found += faults_of_heads(zmeta, room)
     found += faults_of_examples(zmeta, room)
-    return found, 2 * len(CASES) + 2
+    return found, 2 * len(CASES) + len(HEADS) + 2
 
 
 def main():
