@@ -29,6 +29,8 @@ mod sessions;
 #[cfg(test)]
 mod talks;
 #[cfg(test)]
+mod told;
+#[cfg(test)]
 mod traces;
 #[cfg(test)]
 mod windows;

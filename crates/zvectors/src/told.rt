@@ -1,9 +1,11 @@
-// The words for lines of world files that are refused.
+// What is told of lines of world files that are refused, and of a query that has no text. No command tells this today.
 use std::alloc::Global;
 use std::process::Abort;
 use std::test::Fail;
 use zber_rows::rows::{each_row, halves, pair, unescape};
 use zber_rows::unread::Unread;
+use zmeta_devices::fault::{Fault, Status};
+use zmeta_devices::output::Output;
 use zmeta_explain::put_line_words;
 
 // The number of a line, the world that has it, and the words for it.
@@ -52,4 +54,12 @@ fn is_explained(alloc: Global, row: &str) -> Result<bool, Unread> {
 #[test]
 fn a_refused_line_has_its_words(rt: HostRuntime) -> Result<(), Fail> {
     each_row(rt.alloc(), LINES, is_explained)
+}
+
+#[test]
+fn a_query_without_a_text_is_told(rt: HostRuntime) {
+    let mut told = Vec::new(rt.alloc());
+    let status = Fault::NotPrintable.report(&mut Output::new("-", &mut told));
+    assert!(rt; status == Status::Refused);
+    assert!(rt; told.as_slice() == b"zmeta: not printable\n".as_slice());
 }
