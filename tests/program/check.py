@@ -35,6 +35,7 @@ import listed
 import marc_made
 import marc_views
 import merging
+import messages
 import names
 import opac_views
 import replies
@@ -59,8 +60,8 @@ JSON_WORLDS, JSON_FACTS = 3000, 20000
 SEED = 1
 # the tables of rows, but those of completions
 TABLES = (
-    "show pqf catalogues conversions join saved views copies stops new records worlds search json traces help full "
-    "devices explained words"
+    "show framing lengths misfits queries pqf notation catalogues conversions join saved views copies stops new records "
+    "worlds search json traces help full devices explained words"
 ).split()
 # the streams of which a row begins with one that fails
 STREAMS = "stdin", "stdout", "stderr", "both"
@@ -200,6 +201,9 @@ def main():
         rows = rows_of("completions")
         faults += completions.faults(run, room, rows)
         print(f"program: {len(rows)} rows of completions")
+        found, count = messages.faults(ZMETA, room)
+        faults += found
+        print(f"program: {count} APDUs with changes, operators in one another, and strings of many segments")
         faults += terminal.faults(ZMETA, room)
         print("program: Ctrl-C and the line of progress")
         found, count, again = hosts.faults(ZMETA, room)

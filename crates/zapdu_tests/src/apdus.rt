@@ -1,16 +1,15 @@
 // APDUs in octets, worked out by hand from Z39.50-2003, 4.1, and X.690, each tag of each production in one of them; and
 // what they stand for. Of each kind one has all parts that may be absent, and one has none.
-use crate::elements::encodings::{PRESENT_RESPONSE, PRESENT_RESPONSE_INDEFINITE};
 use crate::plain::apdu_copy;
 use crate::printed::put_apdu;
-use std::alloc::{AllocError, Global};
+use std::alloc::Global;
 use std::process::Abort;
 use std::test::Fail;
-use zapdu::{Apdu, PresentResponse, Record, Records, print_record};
-use zapdu_rows::boxes::{apdu_node, apdu_of};
+use zapdu::{Apdu, from_element};
+use zapdu_rows::boxes::{apdu_node, apdu_of, box_value};
 use zapdu_rows::parts::Line;
-use zber::{Body, Node};
-use zber_rows::rows::{each_row, element, encoding, message, octets, pair, spells};
+use zber::Node;
+use zber_rows::rows::{each_row, element, encoding, message, octets, pair};
 use zber_rows::unread::{Unread, read};
 
 // Canonical encodings, and the fields.
@@ -79,19 +78,15 @@ fn stands_for(alloc: Global, node: &Node, due: &str) -> Result<bool, Unread> {
     has_line_copied(alloc, &apdu, due)
 }
 
-fn stands_for_copied(alloc: Global, node: &Node, due: &str) -> Result<bool, Unread> {
-    let Ok(copy) = node.copy(alloc) else {
-        return Err(Unread);
-    };
-    stands_for(alloc, &copy, due)
+// A copy of the message that octets spell, which is gone by then.
+fn copy_of(alloc: Global, octets: &[u8]) -> Result<Node, Unread> {
+    let node = message(alloc, octets)?;
+    read(node.copy(alloc))
 }
 
 // Whether octets spell an APDU of this line.
 pub(crate) fn is_line(alloc: Global, octets: &[u8], due: &str) -> Result<bool, Unread> {
-    let Ok(node) = message(alloc, octets) else {
-        return Err(Unread);
-    };
-    stands_for_copied(alloc, &node, due)
+    stands_for(alloc, &copy_of(alloc, octets)?, due)
 }
 
 fn is_read(alloc: Global, row: &str) -> Result<bool, Unread> {
@@ -107,128 +102,15 @@ fn each_apdu_is_read_and_written(rt: HostRuntime) -> Result<(), Fail> {
     each_row(rt.alloc(), APDUS, is_read)
 }
 
-fn put_lines(alloc: Global, records: &[Record], out: &mut Vec<u8>) -> Result<(), AllocError> {
-    for record in records {
-        if print_record(alloc, record, false, out).is_err() {
-            return Err(AllocError);
-        }
-    }
-    Ok(())
-}
-
-// Appends the texts of a PresentResponse's records.
-fn put_texts(alloc: Global, apdu: &Apdu, out: &mut Vec<u8>) -> Result<(), Unread> {
-    match apdu {
-        Apdu::PresentResponse(
-            PresentResponse {
-                records: Some(Records::List(records)),
-                ..
-            },
-        ) => read(put_lines(alloc, records.as_slice(), out)),
-        _ => Err(Unread),
-    }
-}
-
-fn texts(alloc: Global, digits: &str) -> Result<Vec<u8>, Unread> {
-    let Ok(node) = element(alloc, digits) else {
-        return Err(Unread);
-    };
-    let Ok(apdu) = apdu_of(alloc, &node) else {
-        return Err(Unread);
-    };
-    let mut out = Vec::new(alloc);
-    if put_texts(alloc, &apdu, &mut out).is_err() {
-        return Err(Unread);
-    }
-    Ok(out)
-}
-
-#[test]
-fn both_spellings_print_one_record(rt: HostRuntime) -> Result<(), Fail> {
-    let due = b"rec 1.2.840.10003.5.10 - \"hi\"".as_slice();
-    assert!(rt; spells(texts(rt.alloc(), PRESENT_RESPONSE), due));
-    assert!(rt; spells(texts(rt.alloc(), PRESENT_RESPONSE_INDEFINITE), due));
-    Ok(())
-}
-
-// Appends the identifier octets of an element, which are those of an empty one.
-fn put_identifier(alloc: Global, node: &Node, out: &mut Vec<u8>) -> Result<(), AllocError> {
-    let empty = Node::cons(node.tag, Vec::new(alloc));
-    if empty.canonical(alloc, out).is_err() {
-        return Err(AllocError);
-    }
-    let _ = out.pop();
-    Ok(())
-}
-
-// Appends an element in which each constructed one has an indefinite length.
-pub(crate) fn put_indefinite(
-    alloc: Global,
-    node: &Node,
-    out: &mut Vec<u8>,
-) -> Result<(), AllocError> {
-    match &node.body {
-        Body::Prim(_) => node.canonical(alloc, out),
-        Body::Cons(nodes) => {
-            if put_identifier(alloc, node, out).is_err() || out.push(0x80).is_err() {
-                return Err(AllocError);
-            }
-            for node in nodes {
-                if put_indefinite(alloc, node, out).is_err() {
-                    return Err(AllocError);
-                }
-            }
-            out.extend_from_slice(&[0x00, 0x00])
-        }
-    }
-}
-
-// The same element in indefinite lengths.
-fn indefinite(alloc: Global, digits: &str) -> Result<Vec<u8>, Unread> {
-    let Ok(octets) = octets(alloc, digits) else {
-        return Err(Unread);
-    };
-    let Ok(node) = message(alloc, octets.as_slice()) else {
-        return Err(Unread);
-    };
-    let mut out = Vec::new(alloc);
-    if put_indefinite(alloc, &node, &mut out).is_err() {
-        return Err(Unread);
-    }
-    Ok(out)
-}
-
-// Definite and indefinite lengths.
-pub(crate) const LENGTHS: &str = "\
-bf30059f81530100 bf30809f815301000000
-b9268204000000029801019901029b0100bc153013a111a10f280d06072a8648ce13050a81026869 b9808204000000029801019901029b0100bc803080a180a180288006072a8648ce13050a81026869000000000000000000000000
-b8189f1f01319e01019d0102b30ca10a30089f6901649f670146 b8809f1f01319e01019d0102b380a18030809f6901649f6701460000000000000000
-bf814900 bf8149800000
-0400 0400
-";
-
-fn is_respelled(alloc: Global, row: &str) -> Result<bool, Unread> {
-    let (definite, due) = pair(row);
-    let Ok(due) = octets(alloc, due) else {
-        return Err(Unread);
-    };
-    Ok(spells(indefinite(alloc, definite), due.as_slice()))
-}
-
-#[test]
-fn lengths_are_made_indefinite(rt: HostRuntime) -> Result<(), Fail> {
-    each_row(rt.alloc(), LENGTHS, is_respelled)
-}
-
-fn is_read_indefinite(alloc: Global, row: &str) -> Result<bool, Unread> {
+// Whether an element that is given away is an APDU of this line.
+fn is_given(alloc: Global, row: &str) -> Result<bool, Unread> {
     let (digits, _) = pair(row);
-    let Ok(octets) = indefinite(alloc, digits) else {
-        return Err(Unread);
-    };
-    is_line(alloc, octets.as_slice(), row)
+    let apdu = read(from_element(alloc, element(alloc, digits)?))?;
+    let apdu = box_value(alloc, apdu)?;
+    has_line(alloc, &apdu, row)
 }
 
 #[test]
-fn indefinite_lengths_say_the_same(rt: HostRuntime) -> Result<(), Fail> {
-    each_row(rt.alloc(), APDUS, is_read_indefinite)
+fn each_apdu_is_read_from_an_element_given_away(rt: HostRuntime) -> Result<(), Fail> {
+    each_row(rt.alloc(), APDUS, is_given)
 }

@@ -1,43 +1,44 @@
 // The encodings of all tables as one table, with one on each row.
-use crate::apdus::{APDUS, LENGTHS};
-use crate::queries::rows::{KEPT, LONG, OTHERS, READ};
+use crate::apdus::APDUS;
+use crate::others::OTHERS;
+use crate::queries::rows::{KEPT, OTHER_TAGS, TEXTED};
 use crate::servers::SENT;
-use crate::{misfits, records, segments};
+use crate::{records, segments};
 use std::alloc::{AllocError, Global};
 use zber_rows::rows::{pair, split_row};
 
-// Where an encoding stands in a row: its first word, its second one, its last one, or what is behind the equals sign.
+// Where encodings stand in a row: its first word, its second one, what is behind the equals sign, or all its words.
 #[derive(Clone, Copy)]
 enum Place {
     First,
     Second,
-    Last,
     Marked,
+    All,
 }
 
-fn last(row: &str) -> &str {
-    match row.rsplit_once(' ') {
-        Some((_, word)) => word,
-        None => row,
-    }
-}
-
-fn word_at(row: &str, place: Place) -> &str {
+fn words_at(row: &str, place: Place) -> &str {
     match place {
         Place::First => pair(row).0,
         Place::Second => pair(pair(row).1).0,
-        Place::Last => last(row),
         Place::Marked => split_row(row, "=").1,
+        Place::All => row,
     }
+}
+
+// Puts each word.
+fn put_each(words: &str, out: &mut String) -> Result<(), AllocError> {
+    for word in words.split(' ') {
+        out.push_str(word)?;
+        out.push_str("\n")?;
+    }
+    Ok(())
 }
 
 fn put(rows: &str, place: Place, out: &mut String) -> Result<(), AllocError> {
     for row in rows.lines() {
-        let word = word_at(row, place);
-        if !row.starts_with('#') && !word.is_empty() {
-            if out.push_str(word).is_err() || out.push_str("\n").is_err() {
-                return Err(AllocError);
-            }
+        let words = words_at(row, place);
+        if !row.starts_with('#') && !words.is_empty() {
+            put_each(words, out)?;
         }
     }
     Ok(())
@@ -48,22 +49,15 @@ pub(crate) fn encodings(alloc: Global) -> Result<String, AllocError> {
     let mut out = String::new(alloc);
     for (rows, place) in [
         (APDUS, Place::First),
-        (LENGTHS, Place::First),
-        (LENGTHS, Place::Second),
         (SENT, Place::First),
         (SENT, Place::Second),
         (KEPT, Place::First),
-        (OTHERS, Place::First),
-        (LONG, Place::First),
-        (READ, Place::Last),
+        (OTHER_TAGS, Place::First),
+        (TEXTED, Place::First),
         (segments::STRINGS, Place::First),
-        (segments::SPELLED, Place::First),
-        (segments::SPELLED, Place::Second),
-        (segments::QUERIES, Place::First),
-        (records::OTHERS, Place::Last),
         (records::PRINTED, Place::Second),
         (records::MADE, Place::Marked),
-        (misfits::REFUSED, Place::First),
+        (OTHERS, Place::All),
     ] {
         if put(rows, place, &mut out).is_err() {
             return Err(AllocError);

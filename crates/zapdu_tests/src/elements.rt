@@ -1,5 +1,4 @@
 // Elements of BER: messages in pieces, headers, values and identifiers.
-pub(crate) mod encodings;
 mod framing;
 mod headers;
 mod identifiers;

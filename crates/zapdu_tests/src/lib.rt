@@ -4,8 +4,6 @@
 #[cfg(test)]
 mod apdus;
 #[cfg(test)]
-mod calls;
-#[cfg(test)]
 mod collected;
 #[cfg(test)]
 mod damaged;
@@ -14,9 +12,7 @@ mod elements;
 #[cfg(test)]
 mod fields;
 #[cfg(test)]
-mod misfits;
-#[cfg(test)]
-mod perturbed;
+mod others;
 #[cfg(test)]
 mod plain;
 #[cfg(test)]
@@ -29,5 +25,3 @@ mod records;
 mod segments;
 #[cfg(test)]
 mod servers;
-#[cfg(test)]
-mod streamed;

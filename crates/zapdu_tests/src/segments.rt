@@ -1,4 +1,4 @@
-// Strings in constructed form (X.690, 8.7.3 and 8.23): by themselves, and at each place of APDUs and queries.
+// Strings in constructed form (X.690, 8.7.3 and 8.23): by themselves, and at each place of APDUs.
 use crate::apdus::APDUS;
 use crate::elements::shown::string;
 use crate::plain::record_of;
@@ -71,26 +71,6 @@ pub(crate) fn apdu_encoding(alloc: Global, node: &Node) -> Result<String, Unread
     read(encoding(alloc, &node))
 }
 
-// APDUs with strings in constructed form, and the canonical encodings of what they say.
-pub(crate) const SPELLED: &str = "\
-b92a8204000000029801019901029b0100bc193017a115a113281106072a8648ce13050aa106040168040169 b9268204000000029801019901029b0100bc153013a111a10f280d06072a8648ce13050a81026869
-bf300b9f81530100a30404026f6b bf30099f8153010083026f6b
-bf30079f81530100a300 bf30079f815301008300
-";
-
-fn is_spelled(alloc: Global, row: &str) -> Result<bool, Unread> {
-    let (digits, due) = pair(row);
-    let Ok(node) = element(alloc, digits) else {
-        return Err(Unread);
-    };
-    Ok(tells(apdu_encoding(alloc, &node), due))
-}
-
-#[test]
-fn either_form_says_the_same(rt: HostRuntime) -> Result<(), Fail> {
-    each_row(rt.alloc(), SPELLED, is_spelled)
-}
-
 // What a string is made into: one segment, three, three within one, none; and, for what none says, primitive with no
 // octets.
 #[derive(Clone, Copy, PartialEq, Eq)]
@@ -102,7 +82,7 @@ enum Form {
     Empty,
 }
 
-pub(crate) fn segment(octets: Bytes) -> Node {
+fn segment(octets: Bytes) -> Node {
     Node::prim(Tag::universal(4), octets)
 }
 
@@ -118,7 +98,7 @@ fn three(alloc: Global, octets: &Bytes) -> Result<Vec<Node>, AllocError> {
     }
 }
 
-pub(crate) fn one(alloc: Global, node: Node) -> Result<Vec<Node>, AllocError> {
+fn one(alloc: Global, node: Node) -> Result<Vec<Node>, AllocError> {
     match vec![in alloc; node] {
         Ok(nodes) => Ok(nodes),
         Err(_) => Err(AllocError),
@@ -184,36 +164,21 @@ fn change_string(
 }
 
 // The encoding of what an element says with the string at a place in another form.
-fn encode_changed(
-    alloc: Global,
-    node: &Node,
-    place: usize,
-    form: Form,
-    says: fn(Global, &Node) -> Result<String, Unread>,
-) -> Result<String, Unread>
-    requires { IsAlwaysCallable says }
-{
+fn encode_changed(alloc: Global, node: &Node, place: usize, form: Form) -> Result<String, Unread> {
     let mut place = place;
     match change_string(alloc, node, &mut place, form) {
-        Ok(node) => says(alloc, &node),
+        Ok(node) => apdu_encoding(alloc, &node),
         Err(_) => Err(Unread),
     }
 }
 
 // Whether each form of the string at a place that has octets says what the primitive one does.
-fn is_one_value(
-    alloc: Global,
-    node: &Node,
-    place: usize,
-    says: fn(Global, &Node) -> Result<String, Unread>,
-) -> bool
-    requires { IsAlwaysCallable says }
-{
+fn is_one_value(alloc: Global, node: &Node, place: usize) -> bool {
     let Ok(due) = encoding(alloc, node) else {
         return false;
     };
     for form in [Form::One, Form::Three, Form::Nested] {
-        if !tells(encode_changed(alloc, node, place, form, says), due.as_str()) {
+        if !tells(encode_changed(alloc, node, place, form), due.as_str()) {
             return false;
         }
     }
@@ -221,36 +186,22 @@ fn is_one_value(
 }
 
 // Whether both forms of no octets at a place say the same.
-fn is_one_emptied(
-    alloc: Global,
-    node: &Node,
-    place: usize,
-    says: fn(Global, &Node) -> Result<String, Unread>,
-) -> bool
-    requires { IsAlwaysCallable says }
-{
-    match encode_changed(alloc, node, place, Form::Bare, says) {
+fn is_one_emptied(alloc: Global, node: &Node, place: usize) -> bool {
+    match encode_changed(alloc, node, place, Form::Bare) {
         Ok(none) => tells(
-            encode_changed(alloc, node, place, Form::Empty, says),
+            encode_changed(alloc, node, place, Form::Empty),
             none.as_str(),
         ),
         Err(_) => false,
     }
 }
 
-fn are_one_value_in(
-    alloc: Global,
-    node: &Node,
-    places: &str,
-    says: fn(Global, &Node) -> Result<String, Unread>,
-) -> bool
-    requires { IsAlwaysCallable says }
-{
+fn are_one_value_in(alloc: Global, node: &Node, places: &str) -> bool {
     for place in places.split(' ') {
         let Ok(place) = place.parse::<usize>() else {
             return false;
         };
-        if !is_one_value(alloc, node, place, says) || !is_one_emptied(alloc, node, place, says) {
+        if !is_one_value(alloc, node, place) || !is_one_emptied(alloc, node, place) {
             return false;
         }
     }
@@ -258,16 +209,9 @@ fn are_one_value_in(
 }
 
 // The same of all places in a text; `-` stands for none.
-fn are_one_value(
-    alloc: Global,
-    digits: &str,
-    places: &str,
-    says: fn(Global, &Node) -> Result<String, Unread>,
-) -> bool
-    requires { IsAlwaysCallable says }
-{
+fn are_one_value(alloc: Global, digits: &str, places: &str) -> bool {
     match element(alloc, digits) {
-        Ok(node) => places == "-" || are_one_value_in(alloc, &node, places, says),
+        Ok(node) => places == "-" || are_one_value_in(alloc, &node, places),
         Err(_) => false,
     }
 }
@@ -309,10 +253,7 @@ const PLACES: &str = "\
 fn each_string_of_an_apdu_has_either_form(rt: HostRuntime) -> Result<(), Fail> {
     for (row, places) in APDUS.lines().zip(PLACES.lines()) {
         let (digits, _) = pair(row);
-        assert!(rt;
-            are_one_value(rt.alloc(), digits, places, apdu_encoding),
-            "{row}"
-        );
+        assert!(rt; are_one_value(rt.alloc(), digits, places), "{row}");
     }
     Ok(())
 }
@@ -325,25 +266,6 @@ pub(crate) fn query_encoding(alloc: Global, node: &Node) -> Result<String, Unrea
         return Err(Unread);
     };
     read(encoding(alloc, &node))
-}
-
-// Queries and the places of their strings: a general term, a string, a result set, one with attributes, several terms.
-pub(crate) const QUERIES: &str = "\
-a12206072a8648ce130301a017bf6614bf2c0a30089f7801019f7901049f2d0464756e65 8
-a11906072a8648ce130301a00ebf660bbf2c009f81580464756e65 5
-a11006072a8648ce130301a0059f1f027331 3
-a12106072a8648ce130301a016bf8156129f1f027331bf2c0a30089f7801019f790104 4
-a13b06072a8648ce130301a130a00abf6607bf2c009f2d0161a11da00abf6607bf2c009f2d0162a00abf6607bf2c009f2d0163bf2e028100bf2e028000 6 11 15
-";
-
-fn is_query(alloc: Global, row: &str) -> Result<bool, Unread> {
-    let (digits, places) = pair(row);
-    Ok(are_one_value(alloc, digits, places, query_encoding))
-}
-
-#[test]
-fn each_string_of_a_query_has_either_form(rt: HostRuntime) -> Result<(), Fail> {
-    each_row(rt.alloc(), QUERIES, is_query)
 }
 
 pub(crate) fn record_encoding(alloc: Global, node: &Node) -> Result<String, Unread> {

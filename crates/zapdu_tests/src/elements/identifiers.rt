@@ -4,36 +4,7 @@ use std::process::Abort;
 use std::test::Fail;
 use zber::{Oid, OidError};
 use zber_rows::rows::{each_row, pair, split_row, tells};
-use zber_rows::unread::{Unread, read};
-
-// Texts that are read and printed alike.
-const TEXTS: &str = "\
-1.2.840.10003.5.10
-0.39
-2.4294967295
-2.0.0
-1.39.4294967295
-2.999
-";
-
-fn text(alloc: Global, text: &str) -> Result<String, Unread> {
-    let Ok(oid) = Oid::parse_dotted(alloc, text.as_bytes()) else {
-        return Err(Unread);
-    };
-    let Ok(same) = Oid::from_arcs(alloc, oid.arcs()) else {
-        return Err(Unread);
-    };
-    read(same.text(alloc))
-}
-
-fn is_text(alloc: Global, row: &str) -> Result<bool, Unread> {
-    Ok(tells(text(alloc, row), row))
-}
-
-#[test]
-fn texts_are_read_and_printed(rt: HostRuntime) -> Result<(), Fail> {
-    each_row(rt.alloc(), TEXTS, is_text)
-}
+use zber_rows::unread::Unread;
 
 // Refusals, and texts that are refused.
 const REFUSED: &str = "\

@@ -4,9 +4,9 @@ use bytes::Bytes;
 use std::alloc::{AllocError, Global};
 use std::process::Abort;
 use std::test::Fail;
-use zber::{Bits, Body, Node, Oid, Tag};
-use zber_rows::rows::{digits, each_row, octets, pair, tells};
-use zber_rows::unread::{self, Unread};
+use zber::{Node, Tag};
+use zber_rows::rows::{each_row, octets, pair, tells};
+use zber_rows::unread::Unread;
 
 // Types, contents and values: integers next to each power of 256 and its half, the first bits of 10111011 10111011 1.
 const VALUES: &str = "\
@@ -129,14 +129,6 @@ fn node_of(alloc: Global, digits: &str) -> Result<Node, Unread> {
     Ok(Node::prim(tag, contents))
 }
 
-// The contents of a primitive element.
-fn contents(alloc: Global, node: &Node) -> Result<String, Unread> {
-    match &node.body {
-        Body::Prim(octets) => unread::read(digits(alloc, octets.as_slice())),
-        Body::Cons(_) => Err(Unread),
-    }
-}
-
 fn integer(alloc: Global, node: &Node) -> Result<String, AllocError> {
     match node.as_int() {
         Ok(number) => number.to_string(alloc),
@@ -201,90 +193,6 @@ fn values_are_read(rt: HostRuntime) -> Result<(), Fail> {
 #[test]
 fn other_contents_are_read_or_refused(rt: HostRuntime) -> Result<(), Fail> {
     each_row(rt.alloc(), READ, is_read)
-}
-
-// The bits that digits say, through a slice and a copy.
-fn bits_of(alloc: Global, text: &str) -> Result<Bits, AllocError> {
-    let mut bits = Vec::new(alloc);
-    for octet in text.bytes() {
-        if octet != b'-' && bits.push(octet == b'1').is_err() {
-            return Err(AllocError);
-        }
-    }
-    let first = Bits::from_vec(bits);
-    let Ok(second) = Bits::from_slice(alloc, first.as_slice()) else {
-        return Err(AllocError);
-    };
-    second.copy(alloc)
-}
-
-fn write_bits(alloc: Global, value: &str) -> Result<Node, AllocError> {
-    let Ok(bits) = bits_of(alloc, value) else {
-        return Err(AllocError);
-    };
-    Node::of_bits(alloc, Tag::context(1), &bits)
-}
-
-fn write_integer(alloc: Global, value: &str) -> Result<Node, Unread> {
-    let tag = Tag::context(1);
-    let Ok(number) = value.parse::<i64>() else {
-        return Err(Unread);
-    };
-    unread::read(Node::of_int(alloc, tag, number))
-}
-
-fn write_octets(alloc: Global, value: &str) -> Result<Node, Unread> {
-    let Ok(octets) = octets(alloc, value) else {
-        return Err(Unread);
-    };
-    let Ok(octets) = Bytes::from_vec(octets) else {
-        return Err(Unread);
-    };
-    unread::read(Node::of_octets(alloc, Tag::context(1), &octets))
-}
-
-// The identifier of a text, through its arcs and a copy.
-fn identifier_of(alloc: Global, text: &str) -> Result<Oid, Unread> {
-    let Ok(oid) = Oid::parse_dotted(alloc, text.as_bytes()) else {
-        return Err(Unread);
-    };
-    let Ok(same) = Oid::from_arcs(alloc, oid.arcs()) else {
-        return Err(Unread);
-    };
-    unread::read(same.copy(alloc))
-}
-
-fn write_oid(alloc: Global, value: &str) -> Result<Node, Unread> {
-    let Ok(oid) = identifier_of(alloc, value) else {
-        return Err(Unread);
-    };
-    unread::read(Node::of_oid(alloc, Tag::context(1), &oid))
-}
-
-// The element of a value.
-fn write_value(alloc: Global, kind: &str, value: &str) -> Result<Node, Unread> {
-    match kind {
-        "integer" => write_integer(alloc, value),
-        "boolean" => Ok(Node::of_bool(Tag::context(1), value == "true")),
-        "null" => Ok(Node::of_null(Tag::context(1))),
-        "octets" => write_octets(alloc, value),
-        "oid" => write_oid(alloc, value),
-        _ => unread::read(write_bits(alloc, value)),
-    }
-}
-
-fn is_written(alloc: Global, row: &str) -> Result<bool, Unread> {
-    let (kind, rest) = pair(row);
-    let (digits, value) = pair(rest);
-    let Ok(node) = write_value(alloc, kind, value) else {
-        return Err(Unread);
-    };
-    Ok(tells(contents(alloc, &node), digits))
-}
-
-#[test]
-fn values_are_written(rt: HostRuntime) -> Result<(), Fail> {
-    each_row(rt.alloc(), VALUES, is_written)
 }
 
 // Contents, and the first 20 bits that they say.

@@ -1,59 +1,60 @@
-// Object identifiers that texts name, worked out from X.660 and docs/FORMATS.md.
+// Calls of the notation that no command shows: tokens by themselves, and a text with octets that no argument has.
+use crate::queries::plain::query_text;
 use std::alloc::{AllocError, Global};
 use std::process::Abort;
 use std::test::Fail;
-use zber::Oid;
-use zber_rows::rows::{each_row, split_row, tells};
+use zapdu_rows::boxes::parse;
+use zber_rows::rows::spells;
 use zber_rows::unread::Unread;
-use zquery::oid_named;
+use zquery::{Token, tokens};
 
-// Texts, and the arcs of the identifiers that they name, with a space before each.
-const NAMED: &str = "\
-1.2.840.10003.3.1: 1 2 840 10003 3 1
-0.0: 0 0
-1.39: 1 39
-2.40: 2 40
-2.4294967295.7: 2 4294967295 7
-# No arcs in decimal with a dot between each two; a leading zero.
-: none
-bib-1: none
-1.2.: none
-.1.2: none
-1..2: none
-1.2 : none
--1.2: none
-1.2x: none
-1.02: none
-# An arc above 32 bits; one arc alone; a first arc above 2; a second above 39 below 0 or 1.
-1.2.4294967296: none
-2: none
-3.1: none
-0.40: none
-";
-
-fn put_arcs(alloc: Global, oid: &Oid, out: &mut String) -> Result<(), AllocError> {
-    for arc in oid.arcs() {
-        let arc = format!(in alloc; " {arc}")?;
-        out.push_str(arc.as_str())?;
+// Tokens with their places, each on a line, quoted ones in quotes.
+fn put_token(alloc: Global, token: &Token, out: &mut Vec<u8>) -> Result<(), AllocError> {
+    let mark = if token.quoted { 'q' } else { '-' };
+    let Ok(place) = format!(in alloc; "{} {mark} ", token.at) else {
+        return Err(AllocError);
+    };
+    if out.extend_from_slice(place.as_bytes()).is_err()
+        || out.extend_from_slice(token.text.as_slice()).is_err()
+    {
+        return Err(AllocError);
     }
-    Ok(())
+    out.extend_from_slice(b";")
 }
 
-fn named(alloc: Global, text: &str) -> Result<String, AllocError> {
-    let mut out = String::new(alloc);
-    match oid_named(alloc, text.as_bytes())? {
-        Some(oid) => put_arcs(alloc, &oid, &mut out)?,
-        None => out.push_str(" none")?,
+fn list_tokens(alloc: Global, text: &[u8]) -> Result<Vec<u8>, Unread> {
+    let Ok(tokens) = tokens(alloc, text) else {
+        return Err(Unread);
+    };
+    let mut out = Vec::new(alloc);
+    for token in tokens.iter() {
+        if put_token(alloc, token, &mut out).is_err() {
+            return Err(Unread);
+        }
     }
     Ok(out)
 }
 
-fn is_named(alloc: Global, row: &str) -> Result<bool, Unread> {
-    let (text, due) = split_row(row, ":");
-    Ok(tells(named(alloc, text), due))
+#[test]
+fn tokens_have_their_places(rt: HostRuntime) -> Result<(), Fail> {
+    assert!(rt; spells(list_tokens(rt.alloc(), b"a \"b c\""), b"0 - a;2 q b c;"));
+    Ok(())
+}
+
+fn parsed_text(alloc: Global, text: &[u8]) -> Result<Vec<u8>, Unread> {
+    let query = parse(alloc, text)?;
+    query_text(alloc, &query)
 }
 
 #[test]
-fn texts_name_object_identifiers(rt: HostRuntime) -> Result<(), Fail> {
-    each_row(rt.alloc(), NAMED, is_named)
+fn a_term_has_any_octets(rt: HostRuntime) -> Result<(), Fail> {
+    let due = b"\"\x0b\x0c\x00\x7f\xc2\xa0\xff\"";
+    assert!(rt;
+        spells(
+            parsed_text(rt.alloc(), b"\x0b\x0c\x00\x7f\xc2\xa0\xff"),
+            due
+        )
+    );
+    assert!(rt; spells(parsed_text(rt.alloc(), due), due));
+    Ok(())
 }

@@ -3,12 +3,7 @@ use std::alloc::{AllocError, Global};
 use zapdu_rows::boxes::box_value;
 use zber::{Body, Node};
 use zber_rows::unread::{Unread, read};
-use zquery::{BuildError, PqfError, PrintError, Query};
-
-/// Why a text is refused.
-pub fn parse_refusal(alloc: Global, text: &[u8]) -> Option<PqfError> {
-    zquery::parse_pqf(alloc, text).err()
-}
+use zquery::{BuildError, PrintError, Query};
 
 /// Appends the text of a query.
 pub fn print(alloc: Global, query: &Query, out: &mut Vec<u8>) -> Result<(), PrintError> {

@@ -1,16 +1,16 @@
-// Elements that are queries without a text, or no queries, worked out from Z39.50-2003, 4.1, and X.690.
-use crate::queries::forms::{inner_query, is_printed};
-use crate::queries::notation::{bib_1_query, complex, has_no_text, other, proximity_of};
-use crate::queries::plain::{is_query, query_copy, query_node, query_of};
-use crate::queries::rows::{KEPT, LONG, OTHERS};
+// Elements of queries, which are written back, and so are their copies; and queries of opaque parts, worked out from
+// Z39.50-2003, 4.1, and X.690.
+use crate::queries::plain::{inner, is_query, print, query_copy, query_node, query_of};
+use crate::queries::rows::{KEPT, OTHER_TAGS, TEXTED};
 use bytes::Bytes;
 use std::alloc::{AllocError, Global};
 use std::process::Abort;
 use std::test::Fail;
-use zber::{Node, Tag};
+use zapdu_rows::boxes::box_value;
+use zber::{Node, Oid, Seq, Tag};
 use zber_rows::rows::{each_row, element, encoding, is_true, pair, tells};
 use zber_rows::unread::{Unread, read};
-use zquery::{BuildError, Query, Rpn};
+use zquery::{Attr, AttrValue, BuildError, PrintError, Query, Rpn, TermValue};
 
 fn is_written_as(alloc: Global, query: &Query, digits: &str) -> bool {
     let Ok(node) = query_node(alloc, query) else {
@@ -26,29 +26,35 @@ fn is_copied_as(alloc: Global, query: &Query, digits: &str) -> bool {
     is_written_as(alloc, &copy, digits)
 }
 
-fn is_opaque(alloc: Global, query: &Query, digits: &str) -> bool {
-    is_written_as(alloc, query, digits)
-        && is_copied_as(alloc, query, digits)
-        && is_true(has_no_text(alloc, query))
+// Whether an element is a query that is written back, and so is its copy.
+fn is_kept(alloc: Global, node: &Node) -> Result<bool, Unread> {
+    let query = query_of(alloc, node)?;
+    let digits = encoding(alloc, node)?;
+    Ok(
+        is_written_as(alloc, &query, digits.as_str())
+            && is_copied_as(alloc, &query, digits.as_str()),
+    )
 }
 
-fn query(alloc: Global, digits: &str) -> Result<Box<Query>, Unread> {
-    let Ok(node) = element(alloc, digits) else {
-        return Err(Unread);
-    };
-    query_of(alloc, &node)
-}
-
-fn is_kept(alloc: Global, row: &str) -> Result<bool, Unread> {
-    let Ok(query) = query(alloc, row) else {
-        return Err(Unread);
-    };
-    Ok(is_opaque(alloc, &query, row))
+fn is_kept_row(alloc: Global, row: &str) -> Result<bool, Unread> {
+    is_kept(alloc, &element(alloc, row)?)
 }
 
 #[test]
 fn queries_without_a_text_are_written_back(rt: HostRuntime) -> Result<(), Fail> {
-    each_row(rt.alloc(), KEPT, is_kept)
+    each_row(rt.alloc(), KEPT, is_kept_row)
+}
+
+fn is_kept_within(alloc: Global, row: &str) -> Result<bool, Unread> {
+    match inner(&element(alloc, row)?) {
+        Some(node) => is_kept(alloc, node),
+        None => Err(Unread),
+    }
+}
+
+#[test]
+fn queries_with_a_text_are_written_back(rt: HostRuntime) -> Result<(), Fail> {
+    each_row(rt.alloc(), TEXTED, is_kept_within)
 }
 
 // What stands before an operand, the operand, and what stands behind it, of queries in which 60 operators stand in one
@@ -81,16 +87,7 @@ fn tower(alloc: Global, row: &str) -> Result<Node, Unread> {
 
 // A call that went twice into one side of each operator would not come back.
 fn is_kept_high(alloc: Global, row: &str) -> Result<bool, Unread> {
-    let Ok(node) = tower(alloc, row) else {
-        return Err(Unread);
-    };
-    let Ok(query) = query_of(alloc, &node) else {
-        return Err(Unread);
-    };
-    let Ok(digits) = encoding(alloc, &node) else {
-        return Err(Unread);
-    };
-    Ok(is_opaque(alloc, &query, digits.as_str()))
+    is_kept(alloc, &tower(alloc, row)?)
 }
 
 #[test]
@@ -106,21 +103,65 @@ fn is_none(alloc: Global, row: &str) -> Result<bool, Unread> {
 }
 
 #[test]
-fn other_elements_are_no_queries(rt: HostRuntime) -> Result<(), Fail> {
-    each_row(rt.alloc(), OTHERS, is_none)
+fn elements_of_other_tags_are_no_queries(rt: HostRuntime) -> Result<(), Fail> {
+    each_row(rt.alloc(), OTHER_TAGS, is_none)
 }
 
-fn is_text_of(alloc: Global, digits: &str, due: &[u8]) -> bool {
-    match inner_query(alloc, digits) {
-        Ok(query) => is_printed(alloc, &query, due),
-        Err(_) => false,
+// Whether the query has no text, and what was there before stays.
+fn has_no_text(alloc: Global, query: &Query) -> Result<bool, AllocError> {
+    let Ok(mut out) = b"kept".to_vec(alloc) else {
+        return Err(AllocError);
+    };
+    let answer = print(alloc, query, &mut out);
+    Ok(answer == Err(PrintError::NotPrintable) && out.as_slice() == b"kept".as_slice())
+}
+
+fn numeric(alloc: Global) -> Rpn {
+    Rpn::Term {
+        attrs: Seq::from_vec(Vec::new(alloc)),
+        term: TermValue::Numeric(5),
     }
 }
 
-#[test]
-fn other_lengths_say_the_same(rt: HostRuntime) -> Result<(), Fail> {
-    assert!(rt; is_text_of(rt.alloc(), LONG, b"@attr 1=4 \"dune\""));
-    Ok(())
+fn proximity_of(alloc: Global, operator: Node) -> Result<Rpn, AllocError> {
+    let Ok(left) = Box::new(alloc, numeric(alloc)) else {
+        return Err(AllocError);
+    };
+    let Ok(right) = Box::new(alloc, numeric(alloc)) else {
+        return Err(AllocError);
+    };
+    Ok(Rpn::Prox(operator, left, right))
+}
+
+fn other(alloc: Global, node: Node) -> Rpn {
+    Rpn::Term {
+        attrs: Seq::from_vec(Vec::new(alloc)),
+        term: TermValue::Other(node),
+    }
+}
+
+// A term with one attribute, of which this is the value.
+fn complex(alloc: Global, node: Node) -> Result<Rpn, AllocError> {
+    let attr = Attr {
+        attr_set: None,
+        kind: 1,
+        value: AttrValue::Complex(node),
+    };
+    let Ok(attrs) = vec![in alloc; attr] else {
+        return Err(AllocError);
+    };
+    Ok(Rpn::Term {
+        attrs: Seq::from_vec(attrs),
+        term: TermValue::Numeric(5),
+    })
+}
+
+// The query of a root under bib-1.
+fn bib_1_query(alloc: Global, root: Rpn) -> Result<Box<Query>, Unread> {
+    match Oid::from_arcs(alloc, &[1, 2, 840, 10003, 3, 1]) {
+        Ok(attr_set) => read(box_value(alloc, Query { attr_set, root })),
+        Err(_) => Err(Unread),
+    }
 }
 
 // Numbers of context tags; and in which places of opaque parts an element of the tag may stand that is primitive, and
@@ -151,11 +192,14 @@ fn is_spelt(alloc: Global, query: &Query) -> Result<bool, Unread> {
     }
 }
 
-// The mark where the query of a root has an element, and a dot where it has none.
+// The mark where the query of a root has an element, and a dot where it has none; it has no text.
 fn mark(alloc: Global, root: Rpn, mark: char) -> Result<char, Unread> {
     let Ok(query) = bib_1_query(alloc, root) else {
         return Err(Unread);
     };
+    if !is_true(has_no_text(alloc, &query)) {
+        return Err(Unread);
+    }
     match is_spelt(alloc, &query) {
         Ok(is) => Ok(if is { mark } else { '.' }),
         Err(error) => Err(error),
