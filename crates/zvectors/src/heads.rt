@@ -1,5 +1,6 @@
 // What `zoom` hands out beside what the other tests here call through it: what waits is pushed, and a source is read by
 // its bound. `ask`, `serve` and `run_loopback` are called through it by the commands.
+use crate::states::state_text;
 use crate::talks::{Case, has, new_meta, sink_of, source_of, written_digits};
 use std::alloc::Global;
 use std::process::Abort;
@@ -42,8 +43,10 @@ fn push_text<W: Sink>(alloc: Global, sink: &mut W) -> Result<String, Unread> {
     let Ok(()) = has(&meta) else {
         return Err(Unread);
     };
-    let state = meta.state(0);
-    read(format!(in alloc; "{answer:?} | {state:?}"))
+    let Ok(state) = state_text(alloc, &meta.state(0)) else {
+        return Err(Unread);
+    };
+    read(format!(in alloc; "{answer:?} | {state}"))
 }
 
 fn is_push(alloc: Global, row: &str) -> Result<bool, Unread> {

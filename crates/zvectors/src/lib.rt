@@ -27,6 +27,8 @@ mod seeds;
 #[cfg(test)]
 mod sessions;
 #[cfg(test)]
+mod states;
+#[cfg(test)]
 mod talks;
 #[cfg(test)]
 mod told;

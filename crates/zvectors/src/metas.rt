@@ -3,6 +3,7 @@ ghost use Rattle.std.specs.Prelude.{◌<◌, ◌≤◌, length, IfOk};
 ghost use Rattle.zplan.specs.Ranges.{AreWanted, positions};
 ghost use Rattle.zoom.specs.Askable.{IsAskable};
 
+use crate::states::step_word;
 use bytes::Bytes;
 use std::alloc::{AllocError, Global};
 use std::process::Abort;
@@ -120,7 +121,7 @@ fn take_step(alloc: Global, meta: &mut Meta) -> Result<String, Unread> {
     let Ok(step) = meta.take(0) else {
         return Err(Unread);
     };
-    read(format!(in alloc; "{step:?}"))
+    read(String::from_str(alloc, step_word(&step)))
 }
 
 fn drive_once(meta: &mut Meta) -> Result<u32, Unread> {

@@ -7,6 +7,7 @@ mod histories;
 mod memory;
 
 use crate::sessions::call;
+use crate::states::{state_text, step_word};
 use bytes::Bytes;
 use std::alloc::{AllocError, Global};
 use std::process::Abort;
@@ -110,8 +111,7 @@ fn state(alloc: Global, pool: &Pool, c: u32) -> Result<String, Unread> {
     let Ok(()) = has(pool, c) else {
         return Err(Unread);
     };
-    let state = pool.state(c);
-    read(format!(in alloc; "{state:?}"))
+    read(state_text(alloc, &pool.state(c)))
 }
 
 // What waits to go out.
@@ -142,7 +142,7 @@ fn make_call(alloc: Global, pool: &mut Pool, c: u32, step: &str) -> Result<Strin
 
 fn taken_text(alloc: Global, taken: &Result<Step, TakeError>) -> Result<String, AllocError> {
     match taken {
-        Ok(step) => format!(in alloc; "{step:?}"),
+        Ok(step) => String::from_str(alloc, step_word(step)),
         Err(error) => format!(in alloc; "{error:?}"),
     }
 }

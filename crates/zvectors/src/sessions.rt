@@ -5,6 +5,7 @@ mod ranges;
 mod replies;
 
 use crate::answers::facts_row;
+use crate::states::origin_text;
 use bytes::Bytes;
 use std::alloc::{AllocError, Global};
 use std::process::Abort;
@@ -104,8 +105,7 @@ fn peek(
 }
 
 fn state(alloc: Global, origin: &Origin) -> Result<String, AllocError> {
-    let state = origin.state();
-    format!(in alloc; "{state:?}")
+    origin_text(alloc, &origin.state())
 }
 
 fn search_of(alloc: Global, op: u32, set: u32, ask: Box<Ask>) -> Result<Box<Call>, AllocError> {

@@ -3,6 +3,7 @@ ghost use Rattle.std.specs.Prelude.{◌<◌, length, IfOk};
 ghost use Rattle.zoom.specs.Askable.{IsAskable};
 
 use crate::hosts::host;
+use crate::states::state_text;
 use bytes::Bytes;
 use std::alloc::{AllocError, Global};
 use std::io;
@@ -237,8 +238,10 @@ fn talk_text(
     let Ok(()) = has(&meta) else {
         return Err(Unread);
     };
-    let state = meta.state(0);
-    read(format!(in alloc; "{answer:?} | {state:?}"))
+    let Ok(state) = state_text(alloc, &meta.state(0)) else {
+        return Err(Unread);
+    };
+    read(format!(in alloc; "{answer:?} | {state}"))
 }
 
 // The answer of a target's answering.
