@@ -1,7 +1,7 @@
 -- One more question behind others.
 use Rattle.std.proofs.Common.{List, [], ◌∷◌, ◌++◌}
-use Rattle.zoom.specs.Question.{Question}
-use Rattle.zoom.specs.Askable.{IsAskable, AreAskable}
+use Rattle.zoom_questions.specs.declared.question.Question.{Question}
+use Rattle.zoom_questions.specs.Askable.{IsAskable, AreAskable}
 
 pub one_more : (qs : List Question) (q : Question) → AreAskable qs → IsAskable q → AreAskable (qs ++ q ∷ [])
 one_more [] q are is = (is, tt)

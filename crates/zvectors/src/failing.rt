@@ -6,7 +6,8 @@ use std::alloc::Global;
 use std::test::Fail;
 use zber_rows::rows::octets;
 use zber_rows::unread::Unread;
-use zoom::{Meta, Reason, State, TalkError, talk};
+use zoom_io::{TalkError, talk};
+use zoom_pool::{Meta, Reason, State};
 
 // The most octets of a call.
 const STEP: usize = 24;

@@ -1,5 +1,4 @@
-// What `zoom` hands out beside what the other tests here call through it: what waits is pushed, and a source is read by
-// its bound. `ask`, `serve` and `run_loopback` are called through it by the commands.
+// What waits is pushed, and a source is read by its bound.
 use crate::states::state_text;
 use crate::talks::{Case, has, new_meta, sink_of, source_of, written_digits};
 use std::alloc::Global;
@@ -7,7 +6,7 @@ use std::process::Abort;
 use std::test::Fail;
 use zber_rows::rows::{each_row, split_row, tells};
 use zber_rows::unread::{Unread, read};
-use zoom::{Failed, Sink, Source, push};
+use zoom_io::{Failed, Sink, Source, push};
 
 // Which write fails (the first being 1; each takes three octets), then what a push answers where Init waits, the state,
 // and what was written.

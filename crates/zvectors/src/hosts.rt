@@ -5,7 +5,7 @@ use std::test::Fail;
 use zapdu_rows::boxes::box_value;
 use zber_rows::rows::{digits, each_row, is_true, octets, pair, split_row, tells};
 use zber_rows::unread::{Unread, read};
-use zoom::Host;
+use zoom_pool::Host;
 use ztarget::{Target, TargetSettings};
 
 // Two pieces, and then how many replies are released one by one, what is handed out, and whether the host stopped.

@@ -1,7 +1,7 @@
 // Connections that are driven for a question, from the octets that come to those that are sent.
 ghost use Rattle.std.specs.Prelude.{◌<◌, ◌≤◌, length, IfOk};
 ghost use Rattle.zplan.specs.Ranges.{AreWanted, positions};
-ghost use Rattle.zoom.specs.Askable.{IsAskable};
+ghost use Rattle.zoom_questions.specs.Askable.{IsAskable};
 
 use crate::states::step_word;
 use bytes::Bytes;
@@ -12,7 +12,8 @@ use zapdu_rows::boxes::{box_value, parse};
 use zber::Seq;
 use zber_rows::rows::{digits, each_row, is_true, octets, pair, tells};
 use zber_rows::unread::{Unread, read};
-use zoom::{Meta, MetaSettings, Question};
+use zoom_pool::Meta;
+use zoom_questions::{MetaSettings, Question};
 use zorigin::Range;
 
 // Steps of one connection: what is fed, what a take answers then, how many calls a drive makes, and what is handed out;

@@ -18,7 +18,7 @@ use zber_rows::rows::{digits, is_true, octets, pair, split_row, tells, unescape}
 use zber_rows::unread::{Unread, read};
 use zknow::Mode;
 use zknow_rows::shown::{has_list, is_listed, put_counts, put_known};
-use zoom::{Call, Pool, Reason, ResultSet, Step, TakeError};
+use zoom_pool::{Call, Pool, Reason, ResultSet, Step, TakeError};
 use zorigin::CallRefused;
 
 /// So many connections in state Fresh.

@@ -15,7 +15,7 @@ use zapdu_rows::boxes::{apdu, box_value, parse};
 use zber::{Oid, Seq};
 use zber_rows::rows::{is_true, pair, split_row, split_text};
 use zber_rows::unread::{Unread, read};
-use zoom::Call;
+use zoom_pool::Call;
 use zorigin::{Ask, CallRefused, Origin, Range, Refused, Sent, Settings, Taken};
 
 fn databases(alloc: Global) -> Result<Seq<Bytes>, Unread> {

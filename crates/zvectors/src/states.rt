@@ -1,6 +1,6 @@
 // What a state, or the step of a take, reads as in a row.
 use std::alloc::{AllocError, Global};
-use zoom::{Reason, Step};
+use zoom_pool::{Reason, Step};
 
 fn ready(alloc: Global, v3: bool, concurrent: bool, named: bool) -> Result<String, AllocError> {
     format!(in alloc; "Ready {{ v3: {v3}, concurrent: {concurrent}, named: {named} }}")
@@ -37,18 +37,18 @@ fn failed_text(alloc: Global, reason: &Reason) -> Result<String, AllocError> {
 }
 
 /// A connection's state.
-pub(crate) fn state_text(alloc: Global, state: &zoom::State) -> Result<String, AllocError> {
+pub(crate) fn state_text(alloc: Global, state: &zoom_pool::State) -> Result<String, AllocError> {
     match state {
-        zoom::State::Fresh => String::from_str(alloc, "Fresh"),
-        zoom::State::Initialising => String::from_str(alloc, "Initialising"),
-        zoom::State::Ready {
+        zoom_pool::State::Fresh => String::from_str(alloc, "Fresh"),
+        zoom_pool::State::Initialising => String::from_str(alloc, "Initialising"),
+        zoom_pool::State::Ready {
             v3,
             concurrent,
             named,
         } => ready(alloc, *v3, *concurrent, *named),
-        zoom::State::Closing => String::from_str(alloc, "Closing"),
-        zoom::State::Closed => String::from_str(alloc, "Closed"),
-        zoom::State::Failed(reason) => failed_text(alloc, reason),
+        zoom_pool::State::Closing => String::from_str(alloc, "Closing"),
+        zoom_pool::State::Closed => String::from_str(alloc, "Closed"),
+        zoom_pool::State::Failed(reason) => failed_text(alloc, reason),
     }
 }
 

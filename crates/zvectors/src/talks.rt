@@ -1,6 +1,6 @@
 // Conversations over devices in memory: connections that are driven, and targets that answer.
 ghost use Rattle.std.specs.Prelude.{◌<◌, length, IfOk};
-ghost use Rattle.zoom.specs.Askable.{IsAskable};
+ghost use Rattle.zoom_questions.specs.Askable.{IsAskable};
 
 use crate::hosts::host;
 use crate::states::state_text;
@@ -14,7 +14,9 @@ use zapdu_rows::boxes::{box_value, parse};
 use zber::Seq;
 use zber_rows::rows::{digits, each_row, octets, pair, split_row, tells};
 use zber_rows::unread::{Unread, read};
-use zoom::{Counting, Meta, MetaSettings, Question, answer, talk};
+use zoom_io::{Counting, answer, talk};
+use zoom_pool::Meta;
+use zoom_questions::{MetaSettings, Question};
 
 // What can be read, how much a call moves, which read and which write fails (the first being 1), and how many reads
 // there may be; then the answer, the state, and what was written. The question wants no record.

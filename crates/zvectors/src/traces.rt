@@ -6,8 +6,8 @@ use std::io::{ErrorKind, Write};
 use std::process::Abort;
 use std::test::Fail;
 use zber::Seq;
-use zoom::{MetaSettings, Question};
 use zoom_asking::{AskedHost, Asking, Manner, Report};
+use zoom_questions::{MetaSettings, Question};
 use zoom_trace::{
     Notice, Recorder, TraceEntry, TraceError, Traced, Tracer, notices, put_entry, read_trace,
     replay,

@@ -7,7 +7,7 @@ use zapdu_rows::boxes::box_value;
 use zber_rows::rows::{each_row, halves, unescape};
 use zber_rows::unread::{Unread, read};
 use zmeta_world::world::{AskedQuestion, End, NamedTarget, World, WorldError, read_world};
-use zoom::Move;
+use zoom_questions::Move;
 use ztarget::{Database, Entry};
 
 // A file, and the number of the line that is refused, if one is.

@@ -1,13 +1,14 @@
 //! Hosts with records in memory, and questions that find them.
 ghost use Rattle.std.specs.Prelude.{◌≡◌, ◌+◌, ◌≤◌, [], length, IfOk, OnOk};
 ghost use Rattle.zplan.specs.Ranges.{AreWanted, positions};
-ghost use Rattle.zoom.specs.Askable.{IsAskable, AreAskable};
+ghost use Rattle.zoom_questions.specs.Askable.{IsAskable, AreAskable};
 
 use crate::asking::fault::Fault;
 use bytes::Bytes;
 use std::alloc::{AllocError, Global};
 use zber::{Oid, Seq};
-use zoom::{Host, Question};
+use zoom_pool::Host;
+use zoom_questions::Question;
 use zorigin::Range;
 use zquery::parse_pqf;
 use ztarget::{Database, Entry, Field, Target, TargetSettings};

@@ -5,7 +5,7 @@ use crate::asking::tempers::{Nature, Temper};
 use std::alloc::Global;
 use zapdu::{Content, Record, RecordBody};
 use zknow::Known;
-use zoom::{Meta, Reason, State};
+use zoom_pool::{Meta, Reason, State};
 
 /// How a connection may end.
 #[derive(Clone, Copy, PartialEq, Eq)]

@@ -5,8 +5,8 @@ use crate::asking::fault::Fault;
 use crate::asking::tempers::{MILLISECOND, Nature, Temper};
 use std::alloc::Global;
 use zber_rows::dice::Dice;
-use zoom::Host;
 use zoom_asking::Report;
+use zoom_pool::Host;
 
 /// The most replies that one write can bring.
 const MOST_REPLIES: u32 = 1_000;

@@ -10,8 +10,8 @@ use bytes::Bytes;
 use std::alloc::Global;
 use zber::Seq;
 use zber_rows::dice::Dice;
-use zoom::{Manner, MetaSettings};
-use zoom_asking::{AskedHost, Asking, Report};
+use zoom_asking::{AskedHost, Asking, Manner, Report};
+use zoom_questions::MetaSettings;
 
 /// What a run does, all else by dice.
 #[derive(Clone, Copy)]

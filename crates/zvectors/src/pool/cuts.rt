@@ -8,7 +8,7 @@ use std::test::Fail;
 use zapdu_rows::boxes::box_value;
 use zber_rows::rows::{is_true, octets};
 use zber_rows::unread::{Unread, read};
-use zoom::{Call, Pool, Step};
+use zoom_pool::{Call, Pool, Step};
 
 // Requests for the positions 1 to 3 and 2 to 4.
 const CALLS: &str = "init -\nsearch 1 1\npresent 2 1 1 3\npresent 3 1 2 3";

@@ -7,7 +7,7 @@ use std::test::Fail;
 use zber_rows::rows::{is_true, octets, pair};
 use zber_rows::unread::{Unread, read};
 use zknow::Known;
-use zoom::{Call, Pool, ResultSet, Step, TakeError};
+use zoom_pool::{Call, Pool, ResultSet, Step, TakeError};
 use zorigin::CallRefused;
 
 // Each reply, and the call that it answers: two requests show different records at position 2.

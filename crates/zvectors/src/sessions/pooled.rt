@@ -6,7 +6,7 @@ use std::process::Abort;
 use std::test::Fail;
 use zber_rows::rows::{is_true, pair, split_row};
 use zber_rows::unread::{Unread, read};
-use zoom::Pool;
+use zoom_pool::Pool;
 
 // The words of an origin for an answer of a pool.
 fn as_of_origin(alloc: Global, text: &str) -> Result<String, AllocError> {

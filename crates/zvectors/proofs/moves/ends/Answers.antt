@@ -1,5 +1,5 @@
 use Rattle.std.proofs.Common.{sym, subst}
-use Rattle.zoom.specs.NewTargets.{AreNew}
+use Rattle.zoom_questions.specs.NewTargets.{AreNew}
 use Rattle.zvectors.proofs.moves.ends.Goals as goal
 
 pub peers_of-requires : goal.peers_of-requires
