@@ -3,15 +3,15 @@
 
     scripts/machine.py      prints the number
 
-It is the number of processors, four at most, and three at most where less than 21 GB of memory are free: the four
-largest checks take 19.3 GB, the three largest 15.3. RT_JOBS sets how many processors there are.
+It is the number of processors, four at most, and three at most where less than 22 GB of memory are free: the four
+largest checks that may run side by side take 21 GB, the three largest 17. RT_JOBS sets how many processors there are.
 """
 
 import os
 import re
 
 GB = 1_000_000_000
-FREE_FOR_FOUR = 21 * GB
+FREE_FOR_FOUR = 22 * GB
 
 
 def free_memory():
