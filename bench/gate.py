@@ -5,10 +5,9 @@
     bench/gate.py CORES [CHECKS]     (as many checks at a time as the Makefile has, if left out)
 
 First `rt ci` starts what is ready, proofs and tests before must-fail edits, and of these what has the most lines behind
-it. Then the wrong bodies of tests/mutants/gate are tried, a crate a task, the largest with
-most edits first. Each check has
-one job, and checks share the processors evenly. With -v it prints what goes on beside what. The tests of the program,
-some two minutes, are not in it.
+it. Then the wrong bodies of tests/mutants/gate are tried, a share of a crate's a task, the largest with most edits
+first. Each check has one job, and checks share the processors evenly. With -v it prints what goes on beside what. The
+tests of the program, some two minutes, are not in it.
 """
 import pathlib
 import sys
@@ -16,6 +15,7 @@ import sys
 TOP = pathlib.Path(__file__).resolve().parent.parent
 sys.path.insert(0, str(TOP / "scripts"))
 import crates  # noqa: E402
+import machine  # noqa: E402
 import measured  # noqa: E402
 
 PROOFS = "proof", "tests"
@@ -41,8 +41,9 @@ def tasks(of):
         if edits and (TOP / f"crates/{name}/must-fail").is_dir():
             made[name, "edits"] = [(name, it) for it in PROOFS if (name, it) in made], edits, 0
         elif edits:
-            count = len([*(TOP / f"tests/mutants/gate/{name}").glob("*.edit")])
-            last[name, "edits"] = [], edits, count * crates.size(name)
+            paths = [it for part in ("gate", "own") for it in (TOP / f"tests/mutants/{part}/{name}").glob("*.edit")]
+            for at, share in enumerate(machine.shares(paths)):
+                last[name, f"edits {at + 1}"] = [], edits * len(share) / len(paths), len(share) * crates.size(name)
     return made, last
 
 

@@ -12,6 +12,8 @@ import re
 
 GB = 1_000_000_000
 FREE_FOR_FOUR = 22 * GB
+# the most wrong bodies of a crate that the gate tries one after another
+IN_TURN = 3
 
 
 def free_memory():
@@ -28,6 +30,12 @@ def processors():
 def checks():
     """How many checks run at a time."""
     return min(processors(), 4 if free_memory() >= FREE_FOR_FOUR else 3)
+
+
+def shares(edits):
+    """The wrong bodies of a crate in shares, which the gate tries beside each other."""
+    count = -(-len(edits) // IN_TURN)
+    return [edits[at::count] for at in range(count)]
 
 
 if __name__ == "__main__":
