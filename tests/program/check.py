@@ -30,6 +30,7 @@ import hosts
 import html_pages
 import json_lines
 import joining
+import kept
 import large
 import listed
 import marc_made
@@ -231,6 +232,8 @@ def main():
         print(f"program: {count} traces, replayed, cut and damaged")
         faults += saving.faults(ZMETA, room)
         print("program: saved files where saving may fail")
+        faults += kept.faults(ZMETA)
+        print("program: files of folders that commands leave as they were")
         faults += changes.faults(ZMETA)
         print(f"program: changes of {changes.CASES} pairs of saved files")
         faults += merging.faults(ZMETA)

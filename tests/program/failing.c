@@ -4,7 +4,7 @@
    `write N`  the write to standard output
    `tell N`   the write to standard error
    `file N`   the read of a file whose name begins with `broken`
-   `room N`   the write to a file whose name begins with `full`
+   `room N`   the write to a trace whose name begins with `full`, or to a draft
    `port`     each that binds a socket
    `clock`    each that reads a clock
    `drip`     none, but a read of standard input brings one octet */
@@ -34,6 +34,12 @@ static int is_named(int file, const char *front)
     return last && !strncmp(last + 1, front, strlen(front));
 }
 
+/* Whether it is one that the rows write: a trace, or a draft, whose name begins with that of the program. */
+static int is_written(int file)
+{
+    return is_named(file, "full") || is_named(file, "zmeta-");
+}
+
 /* Counts a call of this kind, and returns whether FAILS says it. */
 static int is_said(const char *kind)
 {
@@ -57,7 +63,7 @@ ssize_t write(int file, const void *octets, size_t size)
 {
     static ssize_t (*real)(int, const void *, size_t);
     if (!real) real = (ssize_t (*)(int, const void *, size_t))dlsym(RTLD_NEXT, "write");
-    if (file == 1 ? is_said("write") : file == 2 ? is_said("tell") : is_named(file, "full") && is_said("room"))
+    if (file == 1 ? is_said("write") : file == 2 ? is_said("tell") : is_written(file) && is_said("room"))
         return errno = ENOSPC, -1;
     return real(file, octets, size > MOST ? MOST : size);
 }

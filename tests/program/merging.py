@@ -223,7 +223,7 @@ def failing(zmeta, room):
     found = join(zmeta, room, "--save", "kept", "some0", "no")
     if found != (3, b"", b"zmeta: cannot read no\n") or octets_at(at("kept")) != OLDER:
         yield f"merging, no file: {found}"
-    left = [it for it in sorted(os.listdir(room)) if it.endswith(".part")]
+    left = [it for it in sorted(os.listdir(room)) if it.endswith(".part") or it.startswith("zmeta-")]
     if left:
         yield f"merging left {left}"
 

@@ -1,5 +1,5 @@
-"""Saves where it may fail, and looks at the file: an older one is whole or replaced, and what is no regular file is
-written as it is.
+"""Saves where it may fail, and looks at the file: an older one is whole or replaced, a link is followed to the file that
+it names, and what is no regular file is written as it is.
 
     ZMETA=PROGRAM python3 tests/program/saving.py"""
 
@@ -76,9 +76,10 @@ def faults(zmeta, room):
     yield from unlike("permissions", stat.S_IMODE(os.stat(at("older")).st_mode), 0o640)
     found = saved(zmeta, room, "saves/none", full=True), os.path.exists(at("none"))
     yield from unlike("full disk, no older file", found, (refused("none"), False))
-    # what a run that was broken off may have left
+    # a file beside the one that is made is no draft of it
     make(at("again.part"), OLDER)
-    yield from unlike("again", (saved(zmeta, room, "saves/again"), octets_at(at("again"))), (done, due))
+    found = saved(zmeta, room, "saves/again"), octets_at(at("again")), octets_at(at("again.part"))
+    yield from unlike("again", found, (done, due, OLDER))
     make(at("file"), OLDER)
     os.symlink("file", at("link"))
     found = saved(zmeta, room, "saves/link"), octets_at(at("file")), os.path.islink(at("link"))
@@ -92,7 +93,7 @@ def faults(zmeta, room):
     found = saved(zmeta, room, "saves/unread", output=there), octets_at(at("unread"))
     os.close(there)
     yield from unlike("a list that nobody reads", found, ((3, b"zmeta: cannot write -\n"), due))
-    yield from unlike("left", [it for it in sorted(os.listdir(folder)) if it.endswith(".part")], [])
+    yield from unlike("left", [it for it in sorted(os.listdir(folder)) if it.startswith("zmeta-")], [])
 
 
 def main():

@@ -233,17 +233,21 @@ def faults_of_killed(zmeta, room):
 
 
 async def faults_of_full(zmeta, room):
-    """What is not as it should be where a trace cannot be written: the answers are printed and saved."""
+    """What is not as it should be where a trace cannot be written: the answers are printed and saved if it was begun, and
+    nobody is asked if not."""
     with ThreadPoolExecutor(1) as pool:
-        for path, told in (("/dev/full", b"/dev/full"), ("none/x", b"none/x"), (".", b".")):
+        for path, printed in (("/dev/full", "".join(hosts.ONE)), ("none/x", ""), (".", "")):
             trials = Trials(zmeta, room, pool)
-            words = ("--only", "one", "--trace", path, "--save", "full.saved")
+            words = ("--only", "one", "--trace", path, "--save", f"full{len(printed)}.saved")
             answer = (await trials.run(four_hosts(), words, AT_ONCE)).answer
-            due = (3, "".join(hosts.ONE), f"zmeta: cannot write {told.decode()}\n")
+            due = (3, printed, f"zmeta: cannot write {path}\n")
             if answer != due:
                 yield f"traces: at {path}: {answer}"
-            if run(zmeta, room, "join", "full.saved")[:2] != (0, "".join(hosts.ONE).encode()) and path != "/dev/full":
-                yield f"traces: at {path} nothing is saved"
+    due = (0, "".join(hosts.ONE).encode())
+    if run(zmeta, room, "join", f"full{len(due[1])}.saved")[:2] != due:
+        yield "traces: at /dev/full nothing is saved"
+    if os.path.exists(os.path.join(room, "full0.saved")):
+        yield "traces: a file is saved though nobody is asked"
 
 
 async def collected(found):

@@ -76,6 +76,9 @@ begun files wanted unknown t runs rows chosen form next gathered position octets
       complete = λ f is. let one = all.complete f is in inr (inr (one.0, back one.0 one.1, one.2));
       sound = λ f here. ⊎_elim (λ none. absurd (none_in_nil f none)) (λ none. absurd (nothing f none)) here;
       covered = λ r here. all.covered r (there r here);
+      some = λ r here. all.some r (there r here);
+      first = λ r here. all.first r ((same r).1 here);
+      due = λ n is due. absurd cc;
       below = λ f none. absurd (none_in_nil f none);
       at = λ f none. absurd (nothing f none);
       above = λ r here. subst (λ (o : Option ℤ). IfSome o (λ q. q ≤ℤ r.position)) (sym position) tt;

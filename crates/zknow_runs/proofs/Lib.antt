@@ -1,4 +1,6 @@
 pub mod BeginTheory
+pub mod CoverTheory
+pub mod ExcuseTheory
 pub mod GivenTheory
 pub mod OpenTheory
 pub mod PlacedTheory

@@ -2,7 +2,7 @@
 use Rattle.std.proofs.Common.{◌≡◌, ◌⊎◌, ◌+◌, ◌<◌, ◌≤◌, ℕ, ℤ, List, [], ◌∷◌, ◌++◌, length, take, drop, Option, Some, None, refl, sym, ap, subst, ◌∙◌, inl, inr, ⊎_elim, arith, append_assoc, length-take}
 use Rattle.std.proofs.lemmas.Int.{ints}
 use Rattle.std.proofs.lemmas.List.{take-append-drop}
-use Rattle.std.specs.Prelude.{Contains}
+use Rattle.std.specs.Prelude.{Contains, IfSome}
 use Rattle.zknow.specs.declared.fact.Fact.{Fact}
 use Rattle.zknow.specs.Encodings.{encoding}
 use Rattle.zknow.specs.Saved.Fronts.{IsTakenFront}
@@ -11,14 +11,14 @@ use Rattle.zknow.specs.Saved.SavedFacts.{saved_fact}
 use Rattle.zknow.specs.Tables.DistinctLaws.{none_in_nil, in_cons, in_head, in_tail}
 use Rattle.zknow.proofs.SavedTheory.OneElement.{one_element, element_some}
 use Rattle.zknow_runs.specs.declared.run.Run.{Run}
-use Rattle.zknow_runs.specs.Rows.{place_of, IsAt, StandAt, IsElementAt, AreElements, DoRise, HasFacts, IsCoveredBy, IsCovered, Owes}
+use Rattle.zknow_runs.specs.Rows.{place_of, IsAt, StandAt, IsElementAt, AreElements, DoRise, HasOctets, HasFirst, HasFacts, IsCoveredBy, IsCovered, Owes}
 
 -- ---- elements in a file
 
 abbrev pub size_of : Fact → ℕ
 size_of f = length (encoding saved_fact f)
 
-element_has : (f : Fact) → IsWithinLimits saved_fact f → 0 < size_of f
+pub element_has : (f : Fact) → IsWithinLimits saved_fact f → 0 < size_of f
 element_has f fits = element_some saved_fact f (encoding saved_fact f) fits
 
 -- the number of a place, if there is one
@@ -31,6 +31,13 @@ pub elements_go : (file : List ℕ) (begin end : ℕ) (fs : List Fact) → AreEl
 elements_go file begin end [] are = omega (arith, are)
 elements_go file begin end (f ∷ fs) are =
     omega (arith, elements_go file (begin + size_of f) end fs are.1)
+
+-- elements have octets, if there are any
+pub some_octets : (file : List ℕ) (begin end : ℕ) (fs : List Fact) → AreElements file begin end fs → (f : Fact)
+    → Contains fs f → begin < end
+some_octets file begin end [] are f here = absurd (none_in_nil f here)
+some_octets file begin end (g ∷ gs) are f here =
+    omega (arith, element_has g are.0.fits, elements_go file (begin + size_of g) end gs are.1)
 
 -- octets that stand there begin with the element that stands there
 module _ (file : List ℕ) (begin : ℕ) (octets : List ℕ) (stand : octets ≡ take (length octets) (drop begin file))
@@ -174,6 +181,21 @@ module _ (files : ℕ → Option (List ℕ)) (wanted : Fact → Type 0) (unknown
         by (Some file) is (fs, has) = subst (λ (o : Option (List ℕ)). IsCoveredBy files wanted unknown o
             (record r { position = position })) (sym is)
             (fs, placed_has position at file is fs has)
+
+    -- then its first record is there
+    pub placed_first : (position : ℤ) → IsAt position f → HasOctets files r → IsCovered files wanted unknown r
+        → HasFirst files (record r { position = position })
+    placed_first position at some c = by (files r.file) refl some c
+      where
+        Begins : Option (List ℕ) → Type 0
+        Begins o = IfSome o (λ file. (g : Fact) × IsElementAt file r.begin g × IsAt position g)
+
+        by : (o : Option (List ℕ)) → files r.file ≡ o → IfSome o (λ file. r.begin < r.end)
+            → IsCoveredBy files wanted unknown o r → Begins (files r.file)
+        by None is some u = subst Begins (sym is) tt
+        by (Some file) is some ([], has) = absurd (omega (arith, some, has.elements))
+        by (Some file) is some (g ∷ fs, has) =
+            subst Begins (sym is) (g, has.elements.0, subst (IsAt position) (sym (first_is file is g fs has)) at)
 
     pub placed_owes : (position : ℤ) → IsAt position f → (h : Fact) → Owes files wanted unknown r h
         → Owes files wanted unknown (record r { position = position }) h

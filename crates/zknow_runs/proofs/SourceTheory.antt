@@ -228,5 +228,7 @@ module _ (files : ℕ → Option (List ℕ)) (V W : Fact → Type 0) (A B : Type
   pub wanted_same : (runs : List Run) → AreAllWanted files V A runs → AreAllWanted files W B runs
   wanted_same runs h = record {
     covered = λ r here. covered_same (files r.file) r (h.covered r here);
+    some = h.some;
+    first = h.first;
     complete = λ f w. let it = h.complete f ((same f).1 w) in (it.0, it.1, owes_same it.0 f it.2);
   }

@@ -10,7 +10,7 @@ use Rattle.zknow.specs.declared.fact.Fact.{Fact}
 use Rattle.zknow.specs.Facts.{AreFacts}
 use Rattle.zknow.specs.Saved.Fronts.{IsTakenFront}
 use Rattle.zknow.specs.Saved.SavedFacts.{saved_fact}
-use Rattle.zknow.specs.Tables.DistinctLaws.{none_in_nil, in_cons, in_head, each_in}
+use Rattle.zknow.specs.Tables.DistinctLaws.{none_in_nil, in_cons, in_head, in_tail, each_in}
 use Rattle.zknow.specs.Tables.Join.{IsUnion}
 use Rattle.zknow_forms.specs.Forms.{AreInParts, form_text, IsTold}
 use Rattle.zknow_forms.specs.declared.form.Form.{Form}
@@ -22,12 +22,16 @@ use Rattle.zknow_runs.specs.declared.rows.Rows.{Rows}
 use Rattle.zknow_runs.specs.declared.rows.Taking.{Taking}
 use Rattle.zknow_runs.specs.declared.run.Run.{Run}
 use Rattle.zknow_runs.specs.OpenRuns.{IsPutAmong, IsLeast}
-use Rattle.zknow_runs.specs.Rows.{place_of, is_taken, IsAt, IsTaken, StandAt, StandNext, IsCovered, Owes, AreRows, next_run, left_runs, kept_octets, HoldsRows, Holds, Sources, HoldsOf, AfterReadOf}
+use Rattle.zknow_runs.specs.Rows.{place_of, is_taken, IsAt, IsTaken, StandAt, StandNext, HasOctets, HasFirst, IsCovered, Owes, AreRows, next_run, left_runs, kept_octets, HoldsRows, Holds, Sources, HoldsOf, AfterReadOf}
 use Rattle.zknow_runs.specs.RowSteps.{next_behind, rest_of, HasAppended, HasTurned, HasTaken, AfterTaken}
 use Rattle.zknow_runs.proofs.BeginTheory.{put_cases}
-use Rattle.zknow_runs.proofs.RowTheory.{owed, rest_covered, wanted_or, placed_covered, placed_owes, owes_none}
+use Rattle.zknow_runs.proofs.RowTheory.{owed, rest_covered, wanted_or, placed_covered, placed_first, placed_owes, owes_none}
 use Rattle.zknow_runs.proofs.UnionTheory.{Joined, no_facts}
 use Rattle.zknow_runs.proofs.GivenTheory.{appended, TellsMore, appended_octets, appended_tally, rows_end}
+
+if_known : {A : Type 0} {P : Type 0} (o : Option A) → P → IfSome o (λ x. P)
+if_known None p = tt
+if_known (Some x) p = p
 
 none_some : (n : Next) → None ≡ Some n → ⊥
 none_some n is = absurd cc
@@ -63,6 +67,10 @@ module _ (files : ℕ → Option (List ℕ)) (wanted : Fact → Type 0) (unknown
             ((r : Run) × Contains l r × Owes files wanted unknown r f))) same (h.complete f is);
         sound = h.sound;
         covered = λ r here. h.covered r (subst (λ (l : List Run). Contains l r) (sym same) here);
+        some = λ r here. h.some r (subst (λ (l : List Run). Contains l r) (sym same) here);
+        first = λ r here. h.first r (subst (λ (l : List Run). Contains l r) (sym was) (in_tail run rest r here));
+        due = λ n is due. subst (λ (o : Option Next). IfSome o (λ m. HasFirst files m.run)) is
+            (h.first run (subst (λ (l : List Run). Contains l run) (sym was) (in_head run rest)));
         below = h.below;
         at = h.at;
         above = λ r here. h.above r (subst (λ (l : List Run). Contains l r) (sym same) here);
@@ -116,6 +124,9 @@ module _ (files : ℕ → Option (List ℕ)) (wanted : Fact → Type 0) (unknown
             (λ none. absurd (none_in_nil f (subst (λ (l : List Fact). Contains l f) a.gathered none)))
             here;
         covered = λ r here. h.covered r (subst (λ (l : List Run). Contains l r) same_left here);
+        some = λ r here. h.some r (subst (λ (l : List Run). Contains l r) same_left here);
+        first = λ r here. h.first r (subst (λ (l : List Run). Contains l r) a.runs here);
+        due = λ n is due. h.due n (sym a.next ∙ is) due;
         below = λ f here. ⊎_elim (was_below f) (was_at f) ((all_low.2 f).0 here);
         at = λ f none. absurd (none_in_nil f (subst (λ (l : List Fact). Contains l f) a.gathered none));
         above = λ r here. all_above r (subst (λ (l : List Run). Contains l r) same_left here);
@@ -220,6 +231,12 @@ module _ (files : ℕ → Option (List ℕ)) (wanted : Fact → Type 0) (unknown
           (h.covered n.run first_left)))
           (λ later. h.covered r (later_left r later))
           (rest_left r (subst (λ (l : List Run). Contains l r) left_is here));
+      some = λ r here. ⊎_elim
+          (λ rest. subst (HasOctets files) (sym rest.0) (if_known (files n.run.file) rest.1))
+          (λ later. h.some r (later_left r later))
+          (rest_left r (subst (λ (l : List Run). Contains l r) left_is here));
+      first = λ r here. h.first r (subst (λ (l : List Run). Contains l r) (ap (λ (z : Rows). z.runs) is) here);
+      due = λ m some due. absurd (not_due m (sym (ap (λ (z : Rows). z.next) is) ∙ some) due);
       below = λ g here. let b = h.below g here in (b.0, b.1, b.2, position_is ∙ b.3, b.4);
       at = λ g here. ⊎_elim (λ had. let a = h.at g had in (a.0, a.1, position_is ∙ a.2))
           (λ same. (n.run.position, subst (IsAt n.run.position) (sym same) (target, place), position_is ∙ here_at))
@@ -305,6 +322,16 @@ module _ (files : ℕ → Option (List ℕ)) (wanted : Fact → Type 0) (unknown
           (placed_covered files wanted unknown n.run octets stand f size taken position (target, place)
           (h.covered n.run first_left)))
           ((cases r).0 here);
+      some = λ r here. ⊎_elim
+          (λ later. h.some r (later_left r later))
+          (λ one. subst (HasOctets files) one (h.some n.run first_left))
+          ((cases r).0 here);
+      first = λ r here. ⊎_elim (h.first r)
+          (λ one. subst (HasFirst files) one
+          (placed_first files wanted unknown n.run octets stand f size taken position (target, place)
+          (h.some n.run first_left) (h.covered n.run first_left)))
+          ((put_cases mid.runs new.runs (at_run position) r put).0 here);
+      due = λ m some due. absurd (none_some m (sym (ap (λ (z : Rows). z.next) is) ∙ some));
       below = λ g here. let b = h.below g here in (b.0, b.1, b.2, position_is ∙ b.3, b.4);
       at = λ g here.
           let a = h.at g (subst (λ (l : List Fact). Contains l g) (ap (λ (z : Rows). z.gathered) is) here) in

@@ -1,7 +1,6 @@
 -- What was written is a front of the head and the text of facts that may be given.
 use Rattle.std.specs.Prelude.{◌≡◌, ℕ, true, List, Contains}
-use Rattle.zknow.specs.declared.fact.Fact.{Fact}
-use Rattle.zknow_runs.specs.Rows.{IsTaken, AreRowsFront, Sources, HoldsOf}
+use Rattle.zknow_runs.specs.Rows.{AreRowsFront, Sources, HoldsOf, AreTaken}
 use Rattle.zknow_runs.specs.declared.rows.Rows.{Rows}
 use Rattle.zknow_runs.specs.declared.rows.Taking.{Taking}
 
@@ -13,4 +12,4 @@ AreRowsFrontOf s t text = AreRowsFront s.files (Contains s.known) (s.unknown ≡
 abbrev pub AllRowLaws : Type 0
 AllRowLaws =
     (s : Sources) (t : Taking) (text : List ℕ) (rows : Rows) → HoldsOf s t text rows
-    → ((f : Fact) → Contains s.known f → IsTaken t.chosen.now f) → AreRowsFrontOf s t text
+    → AreTaken s t → AreRowsFrontOf s t text

@@ -1,5 +1,5 @@
 -- One step of the records by position.
-use Rattle.std.specs.Prelude.{◌≡◌, ◌≢◌, ◌↔◌, ◌⊎◌, ◌+◌, ◌≤◌, ◌≤ℤ◌, ℕ, ℤ, true, false, List, [], ◌++◌, nat_lt, if◌then◌else◌, Contains, Option, Some, None, ⊤}
+use Rattle.std.specs.Prelude.{◌≡◌, ◌≢◌, ◌↔◌, ◌⊎◌, ◌+◌, ◌≤◌, ◌≤ℤ◌, ℕ, ℤ, true, false, List, [], ◌++◌, nat_lt, if◌then◌else◌, Contains, Option, Some, None}
 use Rattle.zknow.specs.declared.fact.Fact.{Fact}
 use Rattle.zknow.specs.Facts.{AreFacts}
 use Rattle.zknow.specs.Tables.Join.{IsUnion}
@@ -54,11 +54,18 @@ pub record HasGathered (old : Rows) (n : Next) (f : Fact) (size : ℕ) (new : Ro
   pub lawful : AreFacts new.gathered
   pub is : new ≡ record mid { gathered = new.gathered; next = rest_of n (n.run.begin + size) }
 
+-- the fact has the record that is due
+pub record IsDue (old : Rows) (n : Next) (f : Fact) (size : ℕ) : Type 0 where
+  pub target : ℕ
+  pub place : place_of f ≡ Some (target, n.run.position)
+  pub taken : is_taken old.chosen.now target ≡ true
+  pub within : n.run.begin + size ≤ n.run.end
+
 -- what became of a record that was due
 abbrev pub AfterGathered : Rows → Next → Fact → ℕ → Rows → ReadStep → Type 0
 AfterGathered old n f size new steps.Taken = HasGathered old n f size new
 AfterGathered old n f size new steps.Unfinished = ⊥
-AfterGathered old n f size new steps.Changed = ⊤
+AfterGathered old n f size new steps.Changed = IsDue old n f size → ⊥
 
 -- the run was put back, and its next record is at this position
 pub record HasPlaced (old : Rows) (n : Next) (position : ℤ) (new : Rows) : Type 0 where
@@ -70,7 +77,11 @@ pub record HasPlaced (old : Rows) (n : Next) (position : ℤ) (new : Rows) : Typ
 abbrev pub AfterPlaced : Rows → Next → ℤ → Rows → ReadStep → Type 0
 AfterPlaced old n position new steps.Taken = HasPlaced old n position new
 AfterPlaced old n position new steps.Unfinished = ⊥
-AfterPlaced old n position new steps.Changed = ⊤
+AfterPlaced old n position new steps.Changed = n.run.position ≤ℤ position → ⊥
+
+-- the fact has a record that is not at a lower position than the run
+abbrev pub IsLater : Next → Fact → Type 0
+IsLater n f = (target : ℕ) × (position : ℤ) × (place_of f ≡ Some (target, position)) × (n.run.position ≤ℤ position)
 
 -- the fact gave a record, or the next position
 abbrev pub HasTaken : Rows → Next → Fact → ℕ → Rows → Type 0
@@ -78,8 +89,12 @@ HasTaken old n f size new = ((n.is_due ≡ true) × HasGathered old n f size new
     ⊎ ((n.is_due ≡ false) × ((target : ℕ) × (position : ℤ) × (place_of f ≡ Some (target, position))
     × HasPlaced old n position new))
 
+-- the fact is not one that can stand there
+abbrev pub IsOther : Rows → Next → Fact → ℕ → Type 0
+IsOther old n f size = ((n.is_due ≡ true) × (IsDue old n f size → ⊥)) ⊎ ((n.is_due ≡ false) × (IsLater n f → ⊥))
+
 -- what became of a fact that was read
 abbrev pub AfterTaken : Rows → Next → Fact → ℕ → Rows → ReadStep → Type 0
 AfterTaken old n f size new steps.Taken = HasTaken old n f size new
 AfterTaken old n f size new steps.Unfinished = ⊥
-AfterTaken old n f size new steps.Changed = ⊤
+AfterTaken old n f size new steps.Changed = IsOther old n f size

@@ -1,5 +1,5 @@
 -- The records of runs, by position: what files owe, and what was taken of them.
-use Rattle.std.specs.Prelude.{◌≡◌, ◌⊎◌, ◌+◌, ◌<ℤ◌, ◌≤ℤ◌, ℕ, ℤ, Bool, true, List, [], ◌∷◌, ◌++◌, length, take, drop, slice_index_or, Contains, Option, Some, None, IfSome, ⊤}
+use Rattle.std.specs.Prelude.{◌≡◌, ◌⊎◌, ◌+◌, ◌<◌, ◌<ℤ◌, ◌≤ℤ◌, ℕ, ℤ, Bool, true, List, [], ◌∷◌, ◌++◌, length, take, drop, slice_index_or, Contains, Option, Some, None, IfSome, ⊤}
 use Rattle.zknow.specs.declared.fact.Fact.{Fact}
 use Rattle.zknow.specs.declared.fact.Fact.TheVariants.{Count, Failed, Seen, Diag}
 use Rattle.zknow.specs.Encodings.{encoding}
@@ -65,6 +65,16 @@ abbrev pub DoRise : ℤ → List Fact → Type 0
 DoRise p [] = ⊤
 DoRise p (f ∷ fs) = (q : ℤ) × IsAt q f × (p ≤ℤ q) × DoRise q fs
 
+-- ---- runs of files by their numbers, each with its octets if they are known
+
+-- the run has octets, if those of its file are known
+abbrev pub HasOctets : (ℕ → Option (List ℕ)) → Run → Type 0
+HasOctets files r = IfSome (files r.file) (λ file. r.begin < r.end)
+
+-- the first record of the run is at its position, if the octets of its file are known
+abbrev pub HasFirst : (ℕ → Option (List ℕ)) → Run → Type 0
+HasFirst files r = IfSome (files r.file) (λ file. (f : Fact) × IsElementAt file r.begin f × IsAt r.position f)
+
 -- ---- what is left of the runs
 
 -- what is left of the run that is read next, if there is one
@@ -106,9 +116,11 @@ module _ (files : ℕ → Option (List ℕ)) (wanted : Fact → Type 0) (unknown
     pub has : HasFacts file r facts
     pub here : Contains facts f
 
-  -- each run is covered, and each fact that is wanted is one of a run
+  -- each run is covered, and begins as it says; and each fact that is wanted is one of a run
   pub record AreAllWanted (runs : List Run) : Type 0 where
     pub covered : (r : Run) → Contains runs r → IsCovered r
+    pub some : (r : Run) → Contains runs r → HasOctets files r
+    pub first : (r : Run) → Contains runs r → HasFirst files r
     pub complete : (f : Fact) → wanted f → (r : Run) × Contains runs r × Owes r f
 
   -- The facts are all those that are wanted. If there is a file whose octets are not known, others that have records
@@ -121,7 +133,8 @@ module _ (files : ℕ → Option (List ℕ)) (wanted : Fact → Type 0) (unknown
   -- ---- what was taken
 
   -- The facts whose records were written: what stands before them, their text, and what was not handed out. Those that
-  -- were gathered are at the position, and what is left of the runs is not below it.
+  -- were gathered are at the position, and what is left of the runs is not below it. A run whose next record is due
+  -- begins with it.
   pub record HoldsRows (t : Taking) (text : List ℕ) (low : List Fact) (rows : Rows) : Type 0 where
     pub chosen : rows.chosen ≡ t.chosen
     pub form : rows.form ≡ t.form
@@ -131,6 +144,9 @@ module _ (files : ℕ → Option (List ℕ)) (wanted : Fact → Type 0) (unknown
         → Contains low f ⊎ (Contains rows.gathered f ⊎ ((r : Run) × Contains (left_runs rows) r × Owes r f))
     pub sound : (f : Fact) → Contains low f ⊎ Contains rows.gathered f → IsTaken t.chosen.now f × (wanted f ⊎ unknown)
     pub covered : (r : Run) → Contains (left_runs rows) r → IsCovered r
+    pub some : (r : Run) → Contains (left_runs rows) r → HasOctets files r
+    pub first : (r : Run) → Contains rows.runs r → HasFirst files r
+    pub due : (n : Next) → rows.next ≡ Some n → n.is_due ≡ true → HasFirst files n.run
     pub below : (f : Fact) → Contains low f → (p q : ℤ) × IsAt p f × (rows.position ≡ Some q) × (p <ℤ q)
     pub at : (f : Fact) → Contains rows.gathered f → (p : ℤ) × IsAt p f × (rows.position ≡ Some p)
     pub above : (r : Run) → Contains (left_runs rows) r → IfSome rows.position (λ q. q ≤ℤ r.position)
@@ -177,6 +193,25 @@ pub record IsWantedOf (n : Next) (w : Wanted) : Type 0 where
   pub begin : w.begin ≡ n.run.begin
   pub end : w.end ≡ n.run.end
 
+-- the same, and there is such a run
+abbrev pub IsWanted : Rows → Wanted → Type 0
+IsWanted rows w = (n : Next) × (rows.next ≡ Some n) × IsWantedOf n w
+
+-- the octets of the file of the run that is read next are not known
+abbrev pub IsNextUnknown : (ℕ → Option (List ℕ)) → Rows → Type 0
+IsNextUnknown files rows = IfSome rows.next (λ n. files n.run.file ≡ None)
+
+-- the run that is read next has more octets than these
+abbrev pub GoesOnBehind : Rows → List ℕ → Type 0
+GoesOnBehind rows octets = IfSome rows.next (λ n. n.run.begin + length octets < n.run.end)
+
+-- Octets that stand where the next record is read begin with it, where their file is known: if they have no whole
+-- record, the run has more.
+abbrev pub IsExcused : (ℕ → Option (List ℕ)) → Rows → List ℕ → ReadStep → Type 0
+IsExcused files rows octets steps.Taken = ⊤
+IsExcused files rows octets steps.Unfinished = GoesOnBehind rows octets ⊎ IsNextUnknown files rows
+IsExcused files rows octets steps.Changed = IsNextUnknown files rows
+
 -- ---- files, with lists in place of predicates
 
 -- files by their numbers, each with its octets if they are known; the records that are taken of those that are known;
@@ -197,6 +232,10 @@ HoldsOf s t text rows = Holds s.files (Contains s.known) (s.unknown ≡ true) t 
 -- after octets were read that stand where they were wanted
 abbrev pub AfterReadOf : Sources → Taking → List ℕ → Rows → ReadStep → Type 0
 AfterReadOf s t text rows step = AfterRead s.files (Contains s.known) (s.unknown ≡ true) t text rows step
+
+-- each known record is one of those that are taken
+abbrev pub AreTaken : Sources → Taking → Type 0
+AreTaken s t = (f : Fact) → Contains s.known f → IsTaken t.chosen.now f
 
 -- these are the head and the text, and the tally, of all that was given
 abbrev pub AreRowsOf : Sources → Taking → List ℕ → Tally → Type 0

@@ -1,7 +1,7 @@
 //! The records of runs by position: what is read next, and the text of what was read, in one form.
 ghost use Rattle.std.specs.Prelude.{◌≡◌, ◌++◌, ℕ, [], Some, None, List, IfOk, IfSome, IfNone, OnOk};
 ghost use Rattle.zknow.specs.Facts.{IsFact};
-ghost use Rattle.zknow_runs.specs.Rows.{place_of, is_taken, Sources, AreRunsIn, HoldsOf, AfterReadOf, AreRowsOf, StandNext, IsWantedOf, left_runs, kept_octets};
+ghost use Rattle.zknow_runs.specs.Rows.{place_of, is_taken, Sources, AreRunsIn, HoldsOf, AfterReadOf, AreRowsOf, StandNext, IsWanted, AreTaken, IsExcused, left_runs, kept_octets};
 ghost use Rattle.zknow_runs.specs.declared.rows.Taking.{Taking};
 ghost use Rattle.zknow_runs.specs.RowSteps.{rest_of, AfterGathered, AfterPlaced, AfterTaken, HasAppended, HasTurned};
 
@@ -150,7 +150,7 @@ impl<'t> Rows<'t> {
     pub fn wanted(&mut self) -> Option<Wanted>
         ensures holds { (s : Sources) (t : Taking) (text : List ℕ) → HoldsOf s t text self.old
             → HoldsOf s t text self.new }
-        ensures some { IfSome result (λ w. IfSome self.new.next (λ n. IsWantedOf n w)) }
+        ensures some { IfSome result (IsWanted self.new) }
         ensures none { IfNone result (left_runs self.new ≡ []) }
     {
         self.turn();
@@ -200,11 +200,14 @@ impl<'t> Rows<'t> {
     ///
     /// Returns `Unfinished` if there is no whole record; nothing was taken. Returns `Changed` if there is none,
     /// whatever comes behind the octets, or if the record goes beyond the run, is at another position, or is not to be
-    /// taken. Returns `AllocError` if no memory is found, or if a count of the tally passes 64 bits. After these two,
-    /// nothing holds of the rows.
+    /// taken: the file is not as it was when its runs were found. Returns `AllocError` if no memory is found, or if a
+    /// count of the tally passes 64 bits. After these two, nothing holds of the rows.
     pub fn read(&mut self, octets: &[u8]) -> Result<ReadStep, AllocError>
-        ensures { IfOk result (λ step. (s : Sources) (t : Taking) (text : List ℕ)
+        ensures holds { IfOk result (λ step. (s : Sources) (t : Taking) (text : List ℕ)
             → StandNext s.files self.old octets.now → HoldsOf s t text self.old → AfterReadOf s t text self.new step) }
+        ensures excused { IfOk result (λ step. (s : Sources) (t : Taking) (text : List ℕ) → AreTaken s t
+            → StandNext s.files self.old octets.now → HoldsOf s t text self.old
+            → IsExcused s.files self.old octets.now step) }
     {
         let Some(next) = self.next else {
             return Ok(ReadStep::Changed);
@@ -218,6 +221,7 @@ impl<'t> Rows<'t> {
     }
 
     /// Takes the fact that the run begins with, whose element has so many octets.
+    #[tactic(auto, using(crate::proofs::ExcuseTheory::taken_steps))]
     fn take_fact(&mut self, next: Next, fact: &Fact, size: u64) -> Result<ReadStep, AllocError>
         requires fact { IsFact fact.now }
         ensures { IfOk result (AfterTaken self.old next fact.now size self.new) }
@@ -233,6 +237,7 @@ impl<'t> Rows<'t> {
     }
 
     /// Gathers a record that is due: `Changed` if it is not where it was, or not to be taken.
+    #[tactic(auto, using(crate::proofs::ExcuseTheory::not_due))]
     fn gather(
         &mut self,
         next: Next,

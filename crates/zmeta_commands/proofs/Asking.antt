@@ -10,7 +10,7 @@ use Rattle.zmeta_searches.specs.Asked.{terms_of}
 use Rattle.zmeta_searches.specs.Searches.{search_of, chosen_query}
 use Rattle.zmeta_commands.specs.Worlds.{IsTextOf, SearchedResult, told_of}
 use Rattle.zmeta_devices.specs.declared.fault.Fault.{Fault}
-use Rattle.zmeta_devices.specs.declared.fault.Fault.TheVariants.{Read, Line, Query, Wanted, Syntax, Memory}
+use Rattle.zmeta_devices.specs.declared.fault.Fault.TheVariants.{Line, Query, Wanted, Syntax, Memory}
 
 -- the text of `--query` is that of the search, if it is given
 is_chosen : (text : Option (Bor (List ℕ))) (terms : List AskedTerm)
@@ -22,7 +22,6 @@ pub told_as : (s : SearchOptions) (octets : List ℕ) (answer : Result World Fau
     → SearchedResult (search_of s) octets answer → SearchedResult (search_of s) octets (told_of s answer)
 told_as s octets (Ok world) h = h
 told_as s octets (Err (Line number)) h = h
-told_as s octets (Err (Read path)) h = tt
 told_as s octets (Err Memory) h = tt
 told_as s octets (Err (Query kind at old)) h = (h.0, is_chosen s.query (terms_of s))
 told_as s octets (Err (Wanted old)) h = (h.0, inr refl)

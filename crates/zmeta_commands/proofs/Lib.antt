@@ -1,4 +1,7 @@
 mod Asking
+pub mod Apart
+pub mod Beginning
+pub mod Others
 pub mod Troubles
 pub mod Running
 pub mod Listing

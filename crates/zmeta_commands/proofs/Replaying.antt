@@ -158,10 +158,10 @@ untraced view None octets f same h = tt
 untraced view (Some known) octets f same h =
     untraced_in view known f (subst (λ (l : List ℕ). TraceFileResult l (Err f)) same h)
 
-pub unread : (view : View) (path : List ℕ) (file : Option (List ℕ)) (f : Fault) → IsOfFile path f
+pub unread : (view : View) (path : List ℕ) (file : Option (List ℕ)) (f : Fault) → IsOfFile file path f
     → IfSome file (λ known. ReplayFileResult view known (Err f))
 unread view path None f of = tt
-unread view path (Some known) (Read failed) of = tt
+unread view path (Some known) (Read failed) of = let no = of.1 in absurd cc
 unread view path (Some known) Memory of = tt
 unread view path (Some known) f of = absurd of
 
@@ -175,10 +175,10 @@ of_traced octets path (Line number) h = tt
 of_traced octets path Memory h = tt
 of_traced octets path f h = absurd h
 
-pub of_file : (path : List ℕ) (f : Fault) → IsOfFile path f → IsOfReplay path f
-of_file path (Read failed) h = h
-of_file path Memory h = tt
-of_file path f h = absurd h
+pub of_file : (file : Option (List ℕ)) (path : List ℕ) (f : Fault) → IsOfFile file path f → IsOfReplay path f
+of_file file path (Read failed) h = h.0
+of_file file path Memory h = tt
+of_file file path f h = absurd h
 
 -- why the trace of a file is not replayed; what the plan of a head is, or why it has none
 pub ruleset file_faults = (untraced, unread, of_trace, of_traced, of_file)

@@ -1,5 +1,5 @@
 -- What an ask printed is what each replay of its trace prints.
-use Rattle.std.proofs.Common.{◌≡◌, refl, sym, ◌∙◌, ap, subst, inl, inr, ℕ, zero, suc, ◌+◌, ◌<◌, arith, nat_lt, if◌then◌else◌, Bool, true, false, true≢false, List, [], ◌∷◌, ◌++◌, length, Option, Some, None, Result, Ok, Err}
+use Rattle.std.proofs.Common.{◌≡◌, refl, sym, ◌∙◌, ap, subst, inl, inr, ℕ, zero, suc, ◌+◌, ◌<◌, nat_lt, if◌then◌else◌, Bool, true, false, true≢false, List, [], ◌∷◌, ◌++◌, length, Option, Some, None, Result, Ok, Err}
 use Rattle.std.proofs.lemmas.Bool.{lt-ltb}
 use Rattle.zknow.specs.Saved.Saved.{saved as saved_file}
 use Rattle.zknow_stops.specs.declared.detail.Detail.{Detail}
@@ -8,7 +8,7 @@ use Rattle.zmeta_args.specs.declared.arguments.View.{View}
 use Rattle.zmeta_devices.specs.Devices.{Device, Outputs, HasGained, AfterTellLines, AfterEnd, has_broken}
 use Rattle.zmeta_devices.specs.Explained.{stop_line}
 use Rattle.zmeta_devices.specs.Faults.{status_of, refused_status, own_status}
-use Rattle.zmeta_devices.specs.Files.{MadeFile, MadeFiles, MakesFile}
+use Rattle.zmeta_devices.specs.Files.{Files, IsKept, IsLogged}
 use Rattle.zmeta_devices.specs.declared.fault.Fault.{Fault}
 use Rattle.zmeta_devices.specs.declared.fault.Fault.TheVariants.{Memory}
 use Rattle.zmeta_devices.specs.declared.fault.Status.{Status}
@@ -18,16 +18,16 @@ use Rattle.zmeta_offline.specs.SameViews.{IsSameStopIf, AreSameStops}
 use Rattle.zmeta_trace.specs.Given.{given_entries}
 use Rattle.zmeta_world.specs.Search.{SearchTexts}
 use Rattle.zoom.specs.Lines.{trace_of, AreWritable}
-use Rattle.zoom.specs.State.{State}
 use Rattle.zoom.specs.TraceEntry.{TraceEntry}
 use Rattle.zmeta_commands.specs.declared.finished.Finished.{Finished}
 use Rattle.zmeta_commands.specs.declared.replay.Playback.{Playback}
 use Rattle.zmeta_commands.specs.Ask.{AreAsked, AskFileResult}
 use Rattle.zmeta_commands.specs.Choice.{ChoiceTexts}
+use Rattle.zmeta_commands.specs.Begun.{begun_in, IsTraceBegun}
 use Rattle.zmeta_commands.specs.Finished.{failure_line, told_line, told_of, address_at, stop_at, AreLinesFrom, PutFinishedResult, SaveResult, IsEndOfBoth, AfterFinished, AfterAsked}
-use Rattle.zmeta_commands.specs.Replay.{AfterCut, cut_status, finished_in, is_cut_in, ReplayFileResult, AfterReplay}
+use Rattle.zmeta_commands.specs.Replay.{AfterCut, cut_status, finished_in, is_cut_in, ReplayFileResult}
 use Rattle.zmeta_commands.specs.Replayed.{IsSameFinished, AreShort, AreNoticed, IsWell, IsSameOutput, IsSameSaved, IsReprinted, IsReplayable, ReprintLaw}
-use Rattle.zmeta_commands.specs.Traced.{IsTraceOf, IsTraceIf, AfterTrace, TraceResult, AfterTracedAsk}
+use Rattle.zmeta_commands.specs.Traced.{IsTraceOf, IsTraceIf, AfterTrace, TraceResult, IsTracedAsked}
 use Rattle.zmeta_commands.proofs.Repeated.{Laws, same}
 
 -- ---- a command that did its work
@@ -61,7 +61,7 @@ ended_well (Ok own) old new status a w = by (has_broken new) refl
 -- ---- finished connections
 
 -- the list and the lines were written, and the facts were saved
-record HasPrinted (r : Finished) (kept : Option (List ℕ)) (old new : MadeFiles) (before after : Outputs)
+record HasPrinted (r : Finished) (kept : Option (List ℕ)) (old new : Files) (before after : Outputs)
     : Type 0 where
   pub list : HasGained before.output after.output r.list.items
   pub lines : List ℕ
@@ -78,7 +78,7 @@ not_stopped old new lines (inl s) sound =
     absurd (not_broken new.failures (failed_some old.failures new.failures s.failed) sound)
 not_stopped old new lines (inr g) sound = g
 
-printed_by : (r : Finished) (kept : Option (List ℕ)) (old new : MadeFiles) (before after : Outputs)
+printed_by : (r : Finished) (kept : Option (List ℕ)) (old new : Files) (before after : Outputs)
     (listed between : Device) (printed saved : Result (Unit {0}) Fault) (own : Status)
     → PutFinishedResult r before (record after { errors = listed }) printed → SaveResult r kept old new saved
     → IsEndOfBoth r printed saved listed between (Ok own) → has_broken between ≡ false
@@ -95,7 +95,7 @@ printed_by r kept old new before after listed between (Err f) (Ok v) own put sav
 printed_by r kept old new before after listed between (Ok u) (Err f) own put save end sound = absurd (no_err end.0)
 printed_by r kept old new before after listed between (Err g) (Err f) own put save end sound = absurd (no_err end.0)
 
-finished_well : (r : Finished) (kept : Option (List ℕ)) (old new : MadeFiles) (before after : Outputs)
+finished_well : (r : Finished) (kept : Option (List ℕ)) (old new : Files) (before after : Outputs)
     (status : Status) → AfterFinished r kept old new before after status → IsWell status
     → HasPrinted r kept old new before after
 finished_well r kept old new before after status a w =
@@ -144,7 +144,7 @@ module _ (one other : Finished) (is : IsSameFinished one other) (explains : Bool
       let told = same_told c name in
       a.4 ∙ (λ i. (failure_line name (state i) ++ told i) ++ rest i) ∙ sym b.4
 
-  same_saved : (kept again : Option (List ℕ)) (old new from to : MadeFiles) → SaveResult one kept old new (Ok tt)
+  same_saved : (kept again : Option (List ℕ)) (old new from to : Files) → SaveResult one kept old new (Ok tt)
       → SaveResult other again from to (Ok tt) → IsSameSaved kept again old new from to
   same_saved None None old new from to a b = tt
   same_saved None (Some path) old new from to a b = tt
@@ -152,11 +152,11 @@ module _ (one other : Finished) (is : IsSameFinished one other) (explains : Bool
   same_saved (Some path) (Some place) old new from to a b =
       let octets : b.0 ≡ a.0 =
       b.1.octets ∙ (λ i. saved_file (sym is.names i) (sym is.known.facts i)) ∙ sym a.1.octets in
-      (a.0, a.2, subst (λ (o : List ℕ). MakesFile from to (record { path = place; octets = o })) octets b.2)
+      (a.0, a.2, subst (IsKept from to place) octets b.2)
 
 -- ---- both commands
 
-printed_same : (one other : Finished) (kept again : Option (List ℕ)) (old new from to : MadeFiles)
+printed_same : (one other : Finished) (kept again : Option (List ℕ)) (old new from to : Files)
     (before after start end : Outputs) → IsSameFinished one other → start.errors.explains ≡ before.errors.explains
     → HasPrinted one kept old new before after → HasPrinted other again from to start end
     → IsSameOutput before after start end × IsSameSaved kept again old new from to
@@ -183,18 +183,18 @@ module _ (l : Laws) (choice : ChoiceTexts) (search : SearchTexts) (view : View) 
   module _ (r : Finished) (entries : List TraceEntry) (asked : AreAsked choice search view file r)
       (traced : IsTraceOf choice search file r entries)
       (noticed : AreNoticed choice.limits (length traced.0.questions) r entries)
-      (kept : Option (List ℕ)) (made remade : MadeFiles) (before after : Outputs)
+      (kept : Option (List ℕ)) (made remade : Files) (before after : Outputs)
       (printed : HasPrinted r kept made remade before after) where
     replay_by : (replayed : Result Playback Fault) (told : Device) (first : Status) (again : Option (List ℕ))
-        (files filed : MadeFiles) (start end : Outputs) (ended : Status)
+        (from to : Files) (start end : Outputs) (ended : Status)
         → ReplayFileResult view (trace_of entries) replayed → AfterCut (is_cut_in replayed) start.errors told
-        → AfterAsked (finished_in replayed) again files filed (record start { errors = told }) end first
+        → AfterAsked (finished_in replayed) again from to (record start { errors = told }) end first
         → ended ≡ cut_status (is_cut_in replayed) first → IsWell ended
         → start.errors.explains ≡ before.errors.explains
-        → IsSameOutput before after start end × IsSameSaved kept again made remade files filed
-    replay_by (Err f) told first again files filed start end ended says cut done status w explains =
+        → IsSameOutput before after start end × IsSameSaved kept again made remade from to
+    replay_by (Err f) told first again from to start end ended says cut done status w explains =
         absurd (no_fault f (subst IsWell (status ∙ done.2.1) w))
-    replay_by (Ok p) told first again files filed start end ended says cut done status w explains =
+    replay_by (Ok p) told first again from to start end ended says cut done status w explains =
         let both = same l choice search view file r entries p (record {
           asked = asked;
           traced = traced;
@@ -205,51 +205,66 @@ module _ (l : Laws) (choice : ChoiceTexts) (search : SearchTexts) (view : View) 
         let uncut : told ≡ start.errors = subst (λ (b : Bool). AfterCut b start.errors told) both.1 cut in
         let first_well : IsWell first =
         subst IsWell (status ∙ ap (λ (b : Bool). cut_status b first) both.1) w in
-        let reprinted : HasPrinted p.finished again files filed start end =
-        subst (λ (d : Device). HasPrinted p.finished again files filed (record start { errors = d }) end) uncut
-        (finished_well p.finished again files filed (record start { errors = told }) end first done first_well) in
-        printed_same r p.finished kept again made remade files filed before after start end both.0 explains printed
+        let reprinted : HasPrinted p.finished again from to start end =
+        subst (λ (d : Device). HasPrinted p.finished again from to (record start { errors = d }) end) uncut
+        (finished_well p.finished again from to (record start { errors = told }) end first done first_well) in
+        printed_same r p.finished kept again made remade from to before after start end both.0 explains printed
         reprinted
 
-  module _ (trace : List ℕ) (logs : List MadeFile) (relogged : MadeFiles) (kept : Option (List ℕ))
-      (made remade : MadeFiles) (before after : Outputs) where
+    -- of any replay: one that began nothing did not do its work
+    replay_any : IsReprinted view kept (trace_of entries) made remade before after
+    replay_any path again from to start end ended (inl none) w explains =
+        absurd (no_fault none.0 (subst IsWell none.4.1 w))
+    replay_any path again from to start end ended (inr rep) w explains =
+        let h = rep.1 in
+        replay_by h.0 h.1 h.2 again (begun_in from again) to start end ended h.3 h.5 h.6 h.7 w explains
+
+  module _ (trace : List ℕ) (kept : Option (List ℕ)) (old begun saving new : Files) (before after : Outputs)
+      (log : IsLogged (begun_in old kept) begun trace) where
     closed_by : (r : Finished) (entries : List TraceEntry) (between : Device) (first status : Status)
         → AreAsked choice search view file r → IsTraceOf choice search file r entries
-        → AfterAsked (Ok r) kept made remade before (record after { errors = between }) first
-        → AfterTrace trace entries (Some logs) relogged between after.errors first status → IsWell status
-        → IsReplayable choice search view trace logs relogged kept file made remade before after
+        → AfterAsked (Ok r) kept begun saving before (record after { errors = between }) first
+        → AfterTrace trace entries saving new between after.errors first status → IsWell status
+        → IsReplayable choice search view trace kept file old new before after
     closed_by r entries between first status asked traced done (inr x) w =
         absurd (no_refused first (subst IsWell x.2 w))
     closed_by r entries between first status asked traced done (inl x) w =
-        let printed : HasPrinted r kept made remade before after =
-        subst (λ (d : Device). HasPrinted r kept made remade before (record after { errors = d })) (sym x.1)
-        (finished_well r kept made remade before (record after { errors = between }) first done
+        let printed : HasPrinted r kept begun saving before after =
+        subst (λ (d : Device). HasPrinted r kept begun saving before (record after { errors = d })) (sym x.1)
+        (finished_well r kept begun saving before (record after { errors = between }) first done
         (subst IsWell x.2 w)) in record {
           finished = r;
           entries = entries;
+          begun = begun;
+          saving = saving;
           asked = asked;
           traced = traced;
-          written = x.0;
-          same = λ noticed path again files filed start end ended rep well explains.
-              replay_by r entries asked traced noticed kept made remade before after printed rep.0 rep.1 rep.2 again
-              files filed start end ended rep.3 rep.5 rep.6 rep.7 well explains;
+          logged = log;
+          closed = x.0;
+          same = λ noticed. replay_any r entries asked traced noticed kept begun saving before after printed;
         }
 
-    traced_by : (asked : Result Finished Fault) (between : Device) (first status : Status)
-        → AskFileResult choice search view file asked
-        → AfterAsked asked kept made remade before (record after { errors = between }) first
-        → TraceResult (IsTraceIf choice search (Some file)) (Some trace) asked (Some logs) relogged between
-        after.errors first status → IsWell status
-        → IsReplayable choice search view trace logs relogged kept file made remade before after
-    traced_by (Err f) between first status says done closing w =
-        absurd (no_fault f (subst IsWell (closing.2 ∙ done.2.1) w))
-    traced_by (Ok r) between first status says done closing w =
-        let is = closing.1 in
-        let traced : IsTraceOf choice search file r closing.0 =
-        subst (λ (o : List ℕ). IsTraceOf choice search o r closing.0) is.1 is.2 in
-        closed_by r closing.0 between first status says traced done closing.2 w
+  traced_by : (trace world : List ℕ) (kept : Option (List ℕ)) (old new : Files) (before after : Outputs)
+      (status : Status)
+      (t : IsTracedAsked choice search view (Some trace) world kept (Some file) old new before after status)
+      → IsWell status → IsReplayable choice search view trace kept file old new before after
+  traced_by trace world kept old new before after status t w = by t.asked t.says t.begins t.done t.closes
+    where
+      by : (asked : Result Finished Fault) → AskFileResult choice search view file asked
+          → IsTraceBegun (Some trace) (begun_in old kept) t.begun asked
+          → AfterAsked asked kept t.begun t.saving before (record after { errors = t.between }) t.first
+          → TraceResult (IsTraceIf choice search (Some file)) (Some trace) asked t.saving new t.between after.errors
+          t.first status → IsReplayable choice search view trace kept file old new before after
+      by (Err f) says begins done closing = absurd (no_fault f (subst IsWell (closing.2 ∙ done.2.1) w))
+      by (Ok r) says begins done closing =
+          let is = closing.1 in
+          let traced : IsTraceOf choice search file r closing.0 =
+          subst (λ (o : List ℕ). IsTraceOf choice search o r closing.0) is.1 is.2 in
+          closed_by trace kept old t.begun t.saving new before after begins r closing.0 t.between t.first status says
+          traced done closing.2 w
 
 pub replayed : Laws → ReprintLaw
-replayed l choice search view trace logs relogged world kept file made remade before after status octets short a w =
-    traced_by l choice search view file octets short trace logs relogged kept made remade before after a.0 a.1 a.2
-    status a.3 a.5 a.6 w
+replayed l choice search view trace world kept file old new before after status octets short (inl none) w =
+    absurd (no_fault none.0 (subst IsWell none.4.1 w))
+replayed l choice search view trace world kept file old new before after status octets short (inr a) w =
+    traced_by l choice search view file octets short trace world kept old new before after status a.2 w

@@ -115,19 +115,19 @@ untraced only None octets f same is = tt
 untraced only (Some known) octets f same is =
     untraced_in only known f (subst (λ (l : List ℕ). TraceFileResult l (Err f)) same is)
 
-pub unread : (only : List (List ℕ)) (path : List ℕ) (file : Option (List ℕ)) (f : Fault) → IsOfFile path f
+pub unread : (only : List (List ℕ)) (path : List ℕ) (file : Option (List ℕ)) (f : Fault) → IsOfFile file path f
     → IfSome file (λ known. IsFileUnshown only known f)
 unread only path None f of = tt
-unread only path (Some known) (Read failed) of = tt
+unread only path (Some known) (Read failed) of = let no = of.1 in absurd cc
 unread only path (Some known) Memory of = tt
 unread only path (Some known) f of = absurd of
 
 -- ---- faults
 
-pub of_file : (path : List ℕ) (f : Fault) → IsOfFile path f → IsOfText path f
-of_file path (Read failed) of = of
-of_file path Memory of = tt
-of_file path f of = absurd of
+pub of_file : (file : Option (List ℕ)) (path : List ℕ) (f : Fault) → IsOfFile file path f → IsOfText path f
+of_file file path (Read failed) of = of.0
+of_file file path Memory of = tt
+of_file file path f of = absurd of
 
 pub of_traced : (path octets : List ℕ) (f : Fault) → TraceFileResult octets (Err f) → IsOfText path f
 of_traced path octets (Line number) is = tt

@@ -29,78 +29,74 @@ use Rattle.zmeta_commands.specs.Dialogue.{AfterDialogue}
 use Rattle.zmeta_commands.specs.Replay.{AfterReplay}
 use Rattle.zmeta_commands.specs.CatalogueFiles.{AfterNamedAsk}
 use Rattle.zmeta_devices.specs.Faults.{as_done}
-use Rattle.zmeta_devices.specs.Files.{MadeFiles}
+use Rattle.zmeta_devices.specs.Files.{Files}
 use Rattle.zmeta_devices.specs.Devices.{Device, Outputs, Streams, written, explaining_streams, IsUnchanged, IsBroken, HasGained, HasStopped, AfterTell, AfterEnd}
 use Rattle.zmeta_devices.specs.declared.fault.Fault.{Fault}
 use Rattle.zmeta_devices.specs.declared.fault.Fault.TheVariants as faults
 use Rattle.zmeta_devices.specs.declared.fault.Status.{Status}
 use Rattle.zmeta_devices.specs.declared.fault.Status.TheVariants as statuses
 
--- the files made, the streams and the status after `join` of the files at these paths: a list is printed; if a path is
+-- the folder, the streams and the status after `join` of the files at these paths: a list is printed; if a path is
 -- given, a file is made there too, or, if no list is wanted, that alone is done
 abbrev pub AfterJoinCall
-    : View → (List ℕ → Option (List ℕ)) → List (List ℕ) → Option (List ℕ) → Bool → MadeFiles → MadeFiles → Outputs
-    → Outputs → Status → Type 0
-AfterJoinCall view octets paths None quiet old new before after status =
-    (new ≡ old) × AfterJoin view octets paths before after status
-AfterJoinCall view octets paths (Some saved) true old new before after status =
-    (after.output ≡ before.output) × AfterMerge octets paths saved old new before.errors after.errors status
-AfterJoinCall view octets paths (Some saved) false old new before after status =
-    AfterJoinSaved view octets paths saved old new before after status
+    : View → List (List ℕ) → Option (List ℕ) → Bool → Files → Files → Outputs → Outputs → Status → Type 0
+AfterJoinCall view paths None quiet old new before after status =
+    (new ≡ old) × AfterJoin view old.octets paths before after status
+AfterJoinCall view paths (Some saved) true old new before after status =
+    (after.output ≡ before.output) × AfterMerge paths saved old new before.errors after.errors status
+AfterJoinCall view paths (Some saved) false old new before after status =
+    AfterJoinSaved view paths saved old new before after status
 
--- the files made, the streams and the status after the command, with these arguments and no others; `octets` are those
--- of the files at paths, `Stream` are the streams of the system, `serves` is how it serves a target, and `logged` and
--- `relogged` are the logs before and after
-abbrev pub AfterCall
-    : Type 0 → Serves → (List ℕ → Option (List ℕ)) → MadeFiles → MadeFiles → Arguments → MadeFiles → MadeFiles
-    → Streams → Streams → Status → Type 0
-AfterCall Stream serves octets logged relogged Show old new before after status =
+-- the folder, the streams and the status after the command, with these arguments and no others; `Stream` are the
+-- streams of the system, and `serves` is how it serves a target
+abbrev pub AfterCall : Type 0 → Serves → Arguments → Files → Files → Streams → Streams → Status → Type 0
+AfterCall Stream serves Show old new before after status =
     (new ≡ old) × AfterShow before after status
-AfterCall Stream serves octets logged relogged (Dialogue trace only) old new before after status =
+AfterCall Stream serves (Dialogue trace only) old new before after status =
     (new ≡ old) × (after.input ≡ before.input)
-    × AfterDialogue (texts_of only.items) (octets trace.now) trace.now (written before) (written after) status
-AfterCall Stream serves octets logged relogged (Pqf text search) old new before after status =
+    × AfterDialogue (texts_of only.items) (old.octets trace.now) trace.now (written before) (written after) status
+AfterCall Stream serves (Pqf text search) old new before after status =
     (new ≡ old) × (after.input ≡ before.input)
     × AfterPqf (now_of text) search (written before) (written after) status
-AfterCall Stream serves octets logged relogged (Join first others saved quiet view) old new before after status =
-    (after.input ≡ before.input) × AfterJoinCall view octets (first.now ∷ texts_of others.items) (now_of saved) quiet
+AfterCall Stream serves (Join first others saved quiet view) old new before after status =
+    (after.input ≡ before.input) × AfterJoinCall view (first.now ∷ texts_of others.items) (now_of saved) quiet
     old new (written before) (written after) status
-AfterCall Stream serves octets logged relogged (New earlier later view) old new before after status =
+AfterCall Stream serves (New earlier later view) old new before after status =
     (new ≡ old) × (after.input ≡ before.input)
-    × AfterNew octets earlier.now later.now view (written before) (written after) status
-AfterCall Stream serves octets logged relogged (Records first others since only syntax conflicts) old new before after
+    × AfterNew old.octets earlier.now later.now view (written before) (written after) status
+AfterCall Stream serves (Records first others since only syntax conflicts) old new before after
     status = (new ≡ old) × (after.input ≡ before.input)
     × AfterRecords
-    (record { since = now_of since; only = texts_of only.items; syntax = now_of syntax; conflicts = conflicts }) octets
-    (first.now ∷ texts_of others.items) (written before) (written after) status
-AfterCall Stream serves octets logged relogged (Run world saved search view) old new before after status =
-    (after.input ≡ before.input) × AfterRun (search_of search) view world.now (now_of saved) (octets world.now) old new
-    (written before) (written after) status
-AfterCall Stream serves octets logged relogged (Ask world saved trace at_once only options search view) old new
+    (record { since = now_of since; only = texts_of only.items; syntax = now_of syntax; conflicts = conflicts })
+    old.octets (first.now ∷ texts_of others.items) (written before) (written after) status
+AfterCall Stream serves (Run world saved search view) old new before after status =
+    (after.input ≡ before.input) × AfterRun (search_of search) view world.now (now_of saved) (old.octets world.now)
+    old new (written before) (written after) status
+AfterCall Stream serves (Ask world saved trace at_once only options search view) old new
     before after status = (after.input ≡ before.input)
     × ((limits : Limits) × AreLimits options limits
     × AfterNamedAsk (record { manner = manner_of at_once; only = texts_of only.items; limits = limits })
-    options search view (now_of trace) logged relogged world.now (now_of saved) (octets world.now) old new
+    options search view (now_of trace) world.now (now_of saved) (old.octets world.now) old new
     (written before) (written after) status)
-AfterCall Stream serves octets logged relogged (Replay trace saved view) old new before after status =
-    (after.input ≡ before.input) × AfterReplay view trace.now (now_of saved) (octets trace.now) old new
+AfterCall Stream serves (Replay trace saved view) old new before after status =
+    (after.input ≡ before.input) × AfterReplay view trace.now (now_of saved) (old.octets trace.now) old new
     (written before) (written after) status
-AfterCall Stream serves octets logged relogged (Loop world saved search view) old new before after status =
-    (after.input ≡ before.input) × AfterLoop Stream (search_of search) view world.now (now_of saved) (octets world.now)
-    old new (written before) (written after) status
-AfterCall Stream serves octets logged relogged (Serve address name world count) old new before after status =
+AfterCall Stream serves (Loop world saved search view) old new before after status =
+    (after.input ≡ before.input) × AfterLoop Stream (search_of search) view world.now (now_of saved)
+    (old.octets world.now) old new (written before) (written after) status
+AfterCall Stream serves (Serve address name world count) old new before after status =
     (new ≡ old) × (after.input ≡ before.input) × (after.output ≡ before.output)
     × AfterServe serves (record { address = address.now; name = name.now; world = world.now; count = count })
-    (octets world.now) before.errors after.errors status
-AfterCall Stream serves octets logged relogged (Catalogues path) old new before after status =
+    (old.octets world.now) before.errors after.errors status
+AfterCall Stream serves (Catalogues path) old new before after status =
     (new ≡ old) × (after.input ≡ before.input)
-    × AfterCatalogues path.now (octets path.now) (written before) (written after) status
-AfterCall Stream serves octets logged relogged (WorldOf catalogues search) old new before after status =
+    × AfterCatalogues path.now (old.octets path.now) (written before) (written after) status
+AfterCall Stream serves (WorldOf catalogues search) old new before after status =
     (new ≡ old) × (after.input ≡ before.input)
-    × AfterWorldOf catalogues.now (octets catalogues.now) search (written before) (written after) status
-AfterCall Stream serves octets logged relogged (CataloguesOf world) old new before after status =
+    × AfterWorldOf catalogues.now (old.octets catalogues.now) search (written before) (written after) status
+AfterCall Stream serves (CataloguesOf world) old new before after status =
     (new ≡ old) × (after.input ≡ before.input)
-    × AfterCataloguesOf world.now (octets world.now) (written before) (written after) status
+    × AfterCataloguesOf world.now (old.octets world.now) (written before) (written after) status
 
 -- help was asked for
 abbrev pub IsHelp : ErrorKind → Type 0
@@ -142,21 +138,18 @@ AfterUsage error before after status = AfterNotice (kind_of error) None before a
 abbrev pub IsWrong : Status → Type 0
 IsWrong status = (status ≡ statuses.Arguments) ⊎ (status ≡ statuses.Memory)
 
--- the files made, the streams and the status after the command that was parsed; or none was run, no file was made, and
--- the input is unchanged
+-- the folder, the streams and the status after the command that was parsed; or none was run, the folder is as it was,
+-- and the input is unchanged
 abbrev pub AfterParsed
-    : Type 0 → Serves → (List ℕ → Option (List ℕ)) → MadeFiles → MadeFiles → List (List ℕ) → Result CommandLine Error
-    → MadeFiles → MadeFiles → Streams → Streams → Status → Type 0
-AfterParsed Stream serves octets logged relogged arguments (Ok line) old new before after status =
-    IsParsed arguments line × AfterCall Stream serves octets logged relogged line.command old new
-    (explaining_streams line.explain before) after status
-AfterParsed Stream serves octets logged relogged arguments (Err error) old new before after status =
+    : Type 0 → Serves → List (List ℕ) → Result CommandLine Error → Files → Files → Streams → Streams → Status → Type 0
+AfterParsed Stream serves arguments (Ok line) old new before after status =
+    IsParsed arguments line × AfterCall Stream serves line.command old new (explaining_streams line.explain before)
+    after status
+AfterParsed Stream serves arguments (Err error) old new before after status =
     (new ≡ old) × (after.input ≡ before.input) × AfterUsage error (written before) (written after) status
 
--- the files made, the streams and the status after a call of the program with these arguments
+-- the folder, the streams and the status after a call of the program with these arguments
 abbrev pub AfterArguments
-    : Type 0 → Serves → (List ℕ → Option (List ℕ)) → MadeFiles → MadeFiles → List (List ℕ) → MadeFiles → MadeFiles
-    → Streams → Streams → Status → Type 0
-AfterArguments Stream serves octets logged relogged arguments old new before after status =
-    (asked : Result CommandLine Error)
-    × AfterParsed Stream serves octets logged relogged arguments asked old new before after status
+    : Type 0 → Serves → List (List ℕ) → Files → Files → Streams → Streams → Status → Type 0
+AfterArguments Stream serves arguments old new before after status =
+    (asked : Result CommandLine Error) × AfterParsed Stream serves arguments asked old new before after status

@@ -1,5 +1,5 @@
 -- What `ask` prints and reports for a world file, and how it ends.
-use Rattle.std.specs.Prelude.{◌≡◌, ◌⊎◌, ℕ, List, [], Option, Result, Ok, Err}
+use Rattle.std.specs.Prelude.{◌≡◌, ◌⊎◌, ℕ, List, [], Option, Some, Result, Ok, Err}
 use Rattle.zmarc.specs.declared.charset.Charset.{Charset}
 use Rattle.zmeta_args.specs.declared.arguments.View.{View}
 use Rattle.zmeta_world.specs.declared.world.World.{World}
@@ -13,10 +13,10 @@ use Rattle.zoom.specs.Notice.{Notice}
 use Rattle.zmeta_commands.specs.Choice.{ChoiceTexts, IsChosen}
 use Rattle.zmeta_offline.specs.Names.{AreAllKnown, IsFirstUnknown}
 use Rattle.zmeta_devices.specs.declared.fault.Fault.{Fault}
-use Rattle.zmeta_devices.specs.declared.fault.Fault.TheVariants.{Read, Line, Query, Wanted, Syntax, NoQuestion, Memory}
+use Rattle.zmeta_devices.specs.declared.fault.Fault.TheVariants.{Read, Write, Line, Query, Wanted, Syntax, NoQuestion, Memory}
 use Rattle.zmeta_commands.specs.declared.finished.Finished.{Finished}
 use Rattle.zmeta_commands.specs.Worlds.{IsSearchedFile, IsSearchRefusal}
-use Rattle.zmeta_commands.specs.Finished.{asker, IsListed, Command, AfterCommand}
+use Rattle.zmeta_commands.specs.Finished.{asker, IsListed}
 
 -- ---- the world of a file
 
@@ -38,7 +38,6 @@ IsLineUnasked search file number =
 abbrev pub ReadNetworkResult : SearchTexts → List ℕ → Result NetworkRun Fault → Type 0
 ReadNetworkResult search file (Ok e) = IsNetworkFile search file e
 ReadNetworkResult search file (Err (Line number)) = IsLineUnasked search file number
-ReadNetworkResult search file (Err (Read path)) = Unit {0}
 ReadNetworkResult search file (Err Memory) = Unit {0}
 ReadNetworkResult search file (Err f) = IsSearchRefusal search f
 
@@ -74,7 +73,7 @@ abbrev pub AskFileResult : ChoiceTexts → SearchTexts → View → List ℕ →
 AskFileResult choice search view file (Ok r) = AreAsked choice search view file r
 AskFileResult choice search view file (Err (Line number)) = IsLineUnasked search file number
 AskFileResult choice search view file (Err (NoQuestion unknown)) = HasNoQuestion choice.only search file unknown.now
-AskFileResult choice search view file (Err (Read path)) = Unit {0}
+AskFileResult choice search view file (Err (Write path)) = Unit {0}
 AskFileResult choice search view file (Err Memory) = Unit {0}
 AskFileResult choice search view file (Err f) = IsSearchRefusal search f
 
@@ -83,22 +82,18 @@ AskFileResult choice search view file (Err f) = IsSearchRefusal search f
 abbrev pub AskNetworkResult : ChoiceTexts → List HostWaits → View → NetworkRun → Result Finished Fault → Type 0
 AskNetworkResult choice waits view e (Ok r) = IsAskedOf choice waits view [] e r
 AskNetworkResult choice waits view e (Err (NoQuestion unknown)) = IsFirstUnknown choice.only e.names unknown.now
+AskNetworkResult choice waits view e (Err (Write path)) = Unit {0}
 AskNetworkResult choice waits view e (Err Memory) = Unit {0}
 AskNetworkResult choice waits view e (Err _) = ⊥
 
--- a fault that can end asking the hosts of the file at a path
-abbrev pub IsOfAsking : List ℕ → Fault → Type 0
-IsOfAsking path (Read failed) = failed.now ≡ path
-IsOfAsking path (Line number) = Unit {0}
-IsOfAsking path (NoQuestion unknown) = Unit {0}
-IsOfAsking path (Query kind at text) = Unit {0}
-IsOfAsking path (Wanted text) = Unit {0}
-IsOfAsking path (Syntax text) = Unit {0}
-IsOfAsking path Memory = Unit {0}
-IsOfAsking path _ = ⊥
-
--- ---- the command
-
--- the files made, the streams and the status after `ask`
-abbrev pub AfterAsk : ChoiceTexts → SearchTexts → View → Command
-AfterAsk choice search view = AfterCommand (AskFileResult choice search view) IsOfAsking
+-- a fault that can end asking the hosts of the file at a path, with a trace at another, if there is one
+abbrev pub IsOfAsking : Option (List ℕ) → List ℕ → Fault → Type 0
+IsOfAsking trace path (Read failed) = failed.now ≡ path
+IsOfAsking trace path (Write failed) = Some failed.now ≡ trace
+IsOfAsking trace path (Line number) = Unit {0}
+IsOfAsking trace path (NoQuestion unknown) = Unit {0}
+IsOfAsking trace path (Query kind at text) = Unit {0}
+IsOfAsking trace path (Wanted text) = Unit {0}
+IsOfAsking trace path (Syntax text) = Unit {0}
+IsOfAsking trace path Memory = Unit {0}
+IsOfAsking trace path _ = ⊥

@@ -14,7 +14,7 @@ use Rattle.zmeta_catalogue_files.specs.Paths.{is_catalogue_path}
 use Rattle.zmeta_catalogue_files.specs.Refusals.{AfterUnionFault}
 use Rattle.zmeta_catalogue_files.specs.Unions.{IsUnion, UnionResult, IsOfUnion}
 use Rattle.zmeta_devices.specs.Devices.{Device, Outputs, AfterTell, AfterTellLines}
-use Rattle.zmeta_devices.specs.Files.{MadeFiles}
+use Rattle.zmeta_devices.specs.Files.{Files}
 use Rattle.zmeta_devices.specs.declared.fault.Fault.TheVariants.{NoQuestion, Line, Memory}
 use Rattle.zmeta_devices.specs.declared.fault.Status.{Status}
 use Rattle.zmeta_devices.specs.declared.fault.Status.TheVariants as statuses
@@ -25,6 +25,7 @@ use Rattle.zoom.specs.HostWaits.{HostWaits}
 use Rattle.zmeta_commands.specs.declared.catalogue_files.UnionRun.{UnionRun}
 use Rattle.zmeta_commands.specs.declared.finished.Finished.{Finished}
 use Rattle.zmeta_commands.specs.Ask.{IsAskedOf}
+use Rattle.zmeta_commands.specs.Begun.{AreApart, begun_in, IsSavingFault, AfterUnbegun}
 use Rattle.zmeta_commands.specs.Choice.{ChoiceTexts, IsSeconds}
 use Rattle.zmeta_commands.specs.Finished.{asker, Command, AfterFinished}
 use Rattle.zmeta_searches.specs.Searches.{search_of}
@@ -115,10 +116,10 @@ IsOfUnionAsk path f = IsOfUnionPlan path f
 
 -- ---- the command
 
--- the files made, the streams and the status after the catalogues of the file at a path were asked with this result:
--- its end, or nothing but the fault
+-- the folder, the streams and the status after the catalogues of the file at a path were asked with this result, behind
+-- the draft of the file to be saved: its end, or nothing but the fault
 abbrev pub AfterUnionAsked
-    : List ℕ → Result Finished UnionFault → Option (List ℕ) → MadeFiles → MadeFiles → Outputs → Outputs → Status
+    : List ℕ → Result Finished UnionFault → Option (List ℕ) → Files → Files → Outputs → Outputs → Status
     → Type 0
 AfterUnionAsked path (Ok r) saved old new before after status = AfterFinished r saved old new before after status
 AfterUnionAsked path (Err f) saved old new before after status =
@@ -134,29 +135,30 @@ AfterTraceRefused path old new status =
     (AfterTellLines old new (trace_line path) × (status ≡ statuses.Refused))
     ⊎ (AfterTell old new Memory × (status ≡ statuses.Memory))
 
--- The files made, the streams and the status after `ask` for a file of catalogues. A trace holds a world file, so a
--- path for one is refused, whatever the file is. Else no log is made. `logged` and `relogged` are the logs before and
--- after.
-abbrev pub AfterUnionAsk
-    : ChoiceTexts → LimitOptions → SearchOptions → View → Option (List ℕ) → MadeFiles → MadeFiles → Command
-AfterUnionAsk choice given options view (Some trace) logged relogged path saved file old new before after status =
-    (relogged ≡ logged) × (new ≡ old) × (after.output ≡ before.output)
-    × AfterTraceRefused path before.errors after.errors status
-AfterUnionAsk choice given options view None logged relogged path saved file old new before after status =
-    (relogged ≡ logged) × ((asked : Result Finished UnionFault)
-    × IfSome file (λ octets. AskUnionResult choice given options view octets asked)
-    × IfErr asked (IsOfUnionAsk path) × AfterUnionAsked path asked saved old new before after status)
+-- the folder, the streams and the status after the catalogues of a file were asked, behind the draft of the file to be
+-- saved
+abbrev pub AfterUnionAsking : ChoiceTexts → LimitOptions → SearchOptions → View → Command
+AfterUnionAsking choice given options view path saved file old new before after status =
+    (asked : Result Finished UnionFault) × IfSome file (λ octets. AskUnionResult choice given options view octets asked)
+    × IfErr asked (IsOfUnionAsk path) × AfterUnionAsked path asked saved old new before after status
+
+-- The folder, the streams and the status after `ask` for a file of catalogues. A trace holds a world file, so a path
+-- for one is refused, whatever the file is. Else no log is begun. A draft of the file to be saved was begun before, or
+-- nothing was asked.
+abbrev pub AfterUnionAsk : ChoiceTexts → LimitOptions → SearchOptions → View → Option (List ℕ) → Command
+AfterUnionAsk choice given options view (Some trace) path saved file old new before after status =
+    (new ≡ old) × (after.output ≡ before.output) × AfterTraceRefused path before.errors after.errors status
+AfterUnionAsk choice given options view None path saved file old new before after status =
+    AfterUnbegun (IsSavingFault old path saved) old new before after status
+    ⊎ (AreApart old path saved
+    × AfterUnionAsking choice given options view path saved file (begun_in old saved) new before after status)
 
 -- the same for a file of catalogues, or for a world file
-abbrev pub AfterAskOf
-    : Bool → ChoiceTexts → LimitOptions → SearchOptions → View → Option (List ℕ) → MadeFiles → MadeFiles → Command
-AfterAskOf true choice given options view trace logged relogged =
-    AfterUnionAsk choice given options view trace logged relogged
-AfterAskOf false choice given options view trace logged relogged =
-    AfterTracedAsk choice (search_of options) view trace logged relogged
+abbrev pub AfterAskOf : Bool → ChoiceTexts → LimitOptions → SearchOptions → View → Option (List ℕ) → Command
+AfterAskOf true choice given options view trace = AfterUnionAsk choice given options view trace
+AfterAskOf false choice given options view trace = AfterTracedAsk choice (search_of options) view trace
 
--- the files made, the streams and the status after `ask` for the file at a path
-abbrev pub AfterNamedAsk
-    : ChoiceTexts → LimitOptions → SearchOptions → View → Option (List ℕ) → MadeFiles → MadeFiles → Command
-AfterNamedAsk choice given options view trace logged relogged path =
-    AfterAskOf (is_catalogue_path path) choice given options view trace logged relogged path
+-- the folder, the streams and the status after `ask` for the file at a path
+abbrev pub AfterNamedAsk : ChoiceTexts → LimitOptions → SearchOptions → View → Option (List ℕ) → Command
+AfterNamedAsk choice given options view trace path =
+    AfterAskOf (is_catalogue_path path) choice given options view trace path

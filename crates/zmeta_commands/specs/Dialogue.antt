@@ -71,7 +71,7 @@ IsFileDialogue only file text = (trace : Trace) × IsTrace file trace × IsDialo
 abbrev pub IsFileUnshown : List (List ℕ) → List ℕ → Fault → Type 0
 IsFileUnshown only file (Line number) =
     IsRefusedAt file number ⊎ ((trace : Trace) × IsTrace file trace × IsTraceUnshown only trace (Line number))
-IsFileUnshown only file (Read path) = Unit {0}
+IsFileUnshown only file (Read path) = ⊥
 IsFileUnshown only file Memory = Unit {0}
 IsFileUnshown only file f = (trace : Trace) × IsTrace file trace × IsTraceUnshown only trace f
 

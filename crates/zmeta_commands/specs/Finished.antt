@@ -11,6 +11,7 @@ use Rattle.zoom.specs.HostWaits.{HostWaits}
 use Rattle.zoom.specs.Limits.{Limits}
 use Rattle.zoom.specs.Notice.{Notice}
 use Rattle.zmeta_devices.specs.Explained.{stop_line}
+use Rattle.zmeta_commands.specs.Begun.{AreApart, begun_in, IsSavingFault, AfterUnbegun}
 use Rattle.zmeta_commands.specs.Stops.{AreStops}
 use Rattle.zmeta_offline.specs.Saved.{SaveFactsResult}
 use Rattle.zmeta_offline.specs.Views.{printed}
@@ -20,7 +21,7 @@ use Rattle.zoom.specs.Reasons.{reason_name}
 use Rattle.zoom.specs.Transcripts.{Transcript, state_at}
 use Rattle.zoom.specs.PoolSteps.{IsStateAt}
 use Rattle.zoom.specs.Metas.{MetaLinks, IsTranscriptValue, is_skipped, is_complete}
-use Rattle.zmeta_devices.specs.Files.{MadeFiles}
+use Rattle.zmeta_devices.specs.Files.{Files}
 use Rattle.zmeta_devices.specs.Devices.{Device, Outputs, HasGained, HasStopped, AreUnwritten, AfterTellLines, AfterReport, AfterEnd}
 use Rattle.zmeta_devices.specs.declared.fault.Fault.{Fault}
 use Rattle.zmeta_devices.specs.declared.fault.Fault.TheVariants.{Read, Write, Line, Memory, Query, Wanted, Syntax}
@@ -156,9 +157,9 @@ IsFinishedStatus r status = IsStatusOf r.addresses.items r.meta status
 
 -- ---- saving
 
--- the facts were saved in one file if a path is given, and no file was made if none is given; or the file there could
--- not be made, or no memory was found
-abbrev pub SaveResult : Finished → Option (List ℕ) → MadeFiles → MadeFiles → Result (Unit {0}) Fault → Type 0
+-- the facts were saved in the file at the path, if one is given, of a draft that was begun there; or it could not be
+-- written, or no memory was found. No other file changed.
+abbrev pub SaveResult : Finished → Option (List ℕ) → Files → Files → Result (Unit {0}) Fault → Type 0
 SaveResult r None old new (Ok u) = new ≡ old
 SaveResult r None old new (Err f) = ⊥
 SaveResult r (Some path) old new result = SaveFactsResult r.names r.meta.pool.knowledge path old new result
@@ -180,7 +181,7 @@ IsEndOfBoth r printed (Err f) old new result = (result ≡ Err f) × AfterReport
 
 -- What became of the list, and, whatever that is, of the saved file; and the result. `listed` is standard error once
 -- the failed connections were reported.
-pub record FinishResult (r : Finished) (saved : Option (List ℕ)) (old new : MadeFiles) (before after : Outputs)
+pub record FinishResult (r : Finished) (saved : Option (List ℕ)) (old new : Files) (before after : Outputs)
     (result : Result Status Fault) : Type 0 where
   pub printed : Result (Unit {0}) Fault
   pub kept : Result (Unit {0}) Fault
@@ -189,21 +190,21 @@ pub record FinishResult (r : Finished) (saved : Option (List ℕ)) (old new : Ma
   pub file : SaveResult r saved old new kept
   pub end : IsEndOfBoth r printed kept listed after.errors result
 
--- the files made, the streams and the status after finished connections; `between` is standard error before a fault is
+-- the folder, the streams and the status after finished connections; `between` is standard error before a fault is
 -- reported
 abbrev pub AfterFinished
-    : Finished → Option (List ℕ) → MadeFiles → MadeFiles → Outputs → Outputs → Status → Type 0
+    : Finished → Option (List ℕ) → Files → Files → Outputs → Outputs → Status → Type 0
 AfterFinished r saved old new before after status = (result : Result Status Fault) × (between : Device)
     × FinishResult r saved old new before (record after { errors = between }) result
     × AfterEnd result between after.errors status
 
 -- ---- a command that asks
 
--- a fault of the file at a path: it cannot be read, or no memory was found
-abbrev pub IsOfFile : List ℕ → Fault → Type 0
-IsOfFile path (Read failed) = failed.now ≡ path
-IsOfFile path Memory = Unit {0}
-IsOfFile path _ = ⊥
+-- a fault of the file at a path: a read of it failed, and its octets are not known; or no memory was found
+abbrev pub IsOfFile : Option (List ℕ) → List ℕ → Fault → Type 0
+IsOfFile file path (Read failed) = (failed.now ≡ path) × (file ≡ None)
+IsOfFile file path Memory = Unit {0}
+IsOfFile file path _ = ⊥
 
 -- a fault of what a world file says, or of what is put to its questions
 abbrev pub IsOfTexts : Fault → Type 0
@@ -228,23 +229,29 @@ IsOfSearchedWorld path (Wanted text) = Unit {0}
 IsOfSearchedWorld path (Syntax text) = Unit {0}
 IsOfSearchedWorld path f = IsOfWorld path f
 
--- the files made, the streams and the status after the questions were asked with this result: its end, or nothing but
--- the fault
+-- the folder, the streams and the status after the questions were asked with this result, behind the draft of the file
+-- to be saved: their end, or nothing but the fault
 abbrev pub AfterAsked
-    : Result Finished Fault → Option (List ℕ) → MadeFiles → MadeFiles → Outputs → Outputs → Status → Type 0
+    : Result Finished Fault → Option (List ℕ) → Files → Files → Outputs → Outputs → Status → Type 0
 AfterAsked (Ok r) saved old new before after status = AfterFinished r saved old new before after status
 AfterAsked (Err f) saved old new before after status =
     (new ≡ old) × (after.output ≡ before.output) × AfterEnd (Err f) before.errors after.errors status
 
--- the files made, the streams and the status after a command, by the paths of the world file and the saved file, and
--- the world file's octets
+-- the folder, the streams and the status after a command, by the paths of the world file and the saved file, and the
+-- world file's octets
 abbrev pub Command : Type 1
-Command =
-    List ℕ → Option (List ℕ) → Option (List ℕ) → MadeFiles → MadeFiles → Outputs → Outputs → Status → Type 0
+Command = List ℕ → Option (List ℕ) → Option (List ℕ) → Files → Files → Outputs → Outputs → Status → Type 0
 
--- the files made, the streams and the status after a command that asks with these results, by the octets of the world
--- file, and with these faults, by its path
-abbrev pub AfterCommand : (List ℕ → Result Finished Fault → Type 0) → (List ℕ → Fault → Type 0) → Command
-AfterCommand says faults world saved file old new before after status = (asked : Result Finished Fault)
+-- the folder, the streams and the status after a command that asks with these results, by the octets of the world file,
+-- and with these faults, by its path, behind the draft of the file to be saved
+abbrev pub AfterAsking : (List ℕ → Result Finished Fault → Type 0) → (List ℕ → Fault → Type 0) → Command
+AfterAsking says faults world saved file old new before after status = (asked : Result Finished Fault)
     × IfSome file (λ octets. says octets asked) × IfErr asked (faults world)
     × AfterAsked asked saved old new before after status
+
+-- the same, once the draft was begun; or it was not, and nothing was asked
+abbrev pub AfterCommand : (List ℕ → Result Finished Fault → Type 0) → (List ℕ → Fault → Type 0) → Command
+AfterCommand says faults world saved file old new before after status =
+    AfterUnbegun (IsSavingFault old world saved) old new before after status
+    ⊎ (AreApart old world saved
+    × AfterAsking says faults world saved file (begun_in old saved) new before after status)

@@ -1,5 +1,6 @@
 pub mod Arguments
 pub mod Ask
+pub mod Begun
 pub mod CatalogueFiles
 pub mod Choice
 pub mod Dialogue
@@ -12,3 +13,4 @@ pub mod Stops
 pub mod Traced
 pub mod Worlds
 pub mod Replayed
+pub mod Others

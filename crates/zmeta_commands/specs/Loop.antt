@@ -45,11 +45,10 @@ IsFileLoop S search view file r = (a : InMemoryRun) × IsInMemoryFile search fil
 abbrev pub LoopFileResult : Type 0 → SearchTexts → View → List ℕ → Result Finished Fault → Type 0
 LoopFileResult S search view file (Ok r) = IsFileLoop S search view file r
 LoopFileResult S search view file (Err (Line number)) = IsLineAtFault search file number
-LoopFileResult S search view file (Err (Read path)) = Unit {0}
 LoopFileResult S search view file (Err Serve) = HasInMemoryRun search file
 LoopFileResult S search view file (Err Memory) = Unit {0}
 LoopFileResult S search view file (Err f) = IsSearchRefusal search f
 
--- the files made, the streams and the status after `loop`, over streams of type S
+-- the folder, the streams and the status after `loop`, over streams of type S
 abbrev pub AfterLoop : Type 0 → SearchTexts → View → Command
 AfterLoop S search view = AfterCommand (LoopFileResult S search view) IsOfLoop

@@ -24,8 +24,9 @@ use Rattle.zmeta_offline.specs.Names.{AreAllKnown, IsFirstUnknown}
 use Rattle.zmeta_commands.specs.declared.finished.Finished.{Finished}
 use Rattle.zmeta_commands.specs.declared.replay.Playback.{Playback}
 use Rattle.zmeta_commands.specs.Ask.{IsNetworkFile, ReadNetworkResult}
+use Rattle.zmeta_commands.specs.Begun.{AreApart, begun_in, IsSavingFault, AfterUnbegun}
 use Rattle.zmeta_commands.specs.Choice.{IsChosen}
-use Rattle.zmeta_commands.specs.Finished.{IsListed, IsOfFile, AfterAsked, Command}
+use Rattle.zmeta_commands.specs.Finished.{IsListed, AfterAsked, Command}
 
 -- ---- faults
 
@@ -45,10 +46,10 @@ IsOfTrace (Line number) = Unit {0}
 IsOfTrace Memory = Unit {0}
 IsOfTrace _ = ⊥
 
--- the same, or the file at the path cannot be read
+-- the same, or a read of the file at the path failed
 abbrev pub IsOfReplay : List ℕ → Fault → Type 0
-IsOfReplay path (Line number) = Unit {0}
-IsOfReplay path f = IsOfFile path f
+IsOfReplay path (Read failed) = failed.now ≡ path
+IsOfReplay path f = IsOfTrace f
 
 -- ---- the parts of a trace
 
@@ -186,7 +187,6 @@ IsLineRefused file number =
 abbrev pub ReplayFileResult : View → List ℕ → Result Playback Fault → Type 0
 ReplayFileResult view file (Ok r) = IsFileReplayed view file r
 ReplayFileResult view file (Err (Line number)) = IsLineRefused file number
-ReplayFileResult view file (Err (Read path)) = Unit {0}
 ReplayFileResult view file (Err Memory) = Unit {0}
 ReplayFileResult view file (Err _) = ⊥
 
@@ -216,12 +216,19 @@ abbrev pub is_cut_in : Result Playback Fault → Bool
 is_cut_in (Ok r) = r.is_cut
 is_cut_in (Err f) = false
 
--- The files made, the streams and the status after `replay` of the trace at a path with these octets. That the trace is
--- cut off is told first: standard error is then `told`, and the rest ends with the status `first`.
-abbrev pub AfterReplay : View → Command
-AfterReplay view path saved file old new before after status =
+-- The folder, the streams and the status after `replay` of the trace at a path with these octets, behind the draft of
+-- the file to be saved. That the trace is cut off is told first: standard error is then `told`, and the rest ends with
+-- the status `first`.
+abbrev pub AfterReplaying : View → Command
+AfterReplaying view path saved file old new before after status =
     (replayed : Result Playback Fault) × (told : Device) × (first : Status)
     × IfSome file (λ octets. ReplayFileResult view octets replayed) × IfErr replayed (IsOfReplay path)
     × AfterCut (is_cut_in replayed) before.errors told
     × AfterAsked (finished_in replayed) saved old new (record before { errors = told }) after first
     × (status ≡ cut_status (is_cut_in replayed) first)
+
+-- the same, once the draft was begun; or it was not, and nothing was done
+abbrev pub AfterReplay : View → Command
+AfterReplay view path saved file old new before after status =
+    AfterUnbegun (IsSavingFault old path saved) old new before after status
+    ⊎ (AreApart old path saved × AfterReplaying view path saved file (begun_in old saved) new before after status)

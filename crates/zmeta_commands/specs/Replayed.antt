@@ -4,7 +4,7 @@ use Rattle.std.specs.declared.time.Duration.{Duration}
 use Rattle.std.specs.Duration.{as_nanos}
 use Rattle.zmeta_args.specs.declared.arguments.View.{View}
 use Rattle.zmeta_devices.specs.Devices.{Outputs, HasGained}
-use Rattle.zmeta_devices.specs.Files.{MadeFile, MadeFiles, MakesFile}
+use Rattle.zmeta_devices.specs.Files.{Files, IsKept, IsLogged, IsClosed}
 use Rattle.zmeta_devices.specs.declared.fault.Status.{Status}
 use Rattle.zmeta_devices.specs.declared.fault.Status.TheVariants as statuses
 use Rattle.zmeta_trace.specs.Given.{given_entries}
@@ -19,6 +19,7 @@ use Rattle.zoom.specs.TraceEntry.{TraceEntry}
 use Rattle.zmeta_commands.specs.declared.finished.Finished.{Finished}
 use Rattle.zmeta_commands.specs.declared.replay.Playback.{Playback}
 use Rattle.zmeta_commands.specs.Ask.{AreAsked}
+use Rattle.zmeta_commands.specs.Begun.{begun_in}
 use Rattle.zmeta_commands.specs.Choice.{ChoiceTexts}
 use Rattle.zmeta_commands.specs.Replay.{IsFileReplayed, AfterReplay}
 use Rattle.zmeta_commands.specs.Stops.{AreStops}
@@ -85,43 +86,42 @@ pub record IsSameOutput (before after start end : Outputs) : Type 0 where
   pub told : HasGained before.errors after.errors lines
   pub retold : HasGained start.errors end.errors lines
 
--- if both saved, both made a file with the same octets, each at its path
-abbrev pub IsSameSaved
-    : Option (List ℕ) → Option (List ℕ) → MadeFiles → MadeFiles → MadeFiles → MadeFiles → Type 0
-IsSameSaved (Some one) (Some other) made remade files filed =
-    (octets : List ℕ) × MakesFile made remade (record { path = one; octets = octets })
-    × MakesFile files filed (record { path = other; octets = octets })
-IsSameSaved _ _ made remade files filed = Unit {0}
+-- if both saved, both kept a draft with the same octets, each at its path
+abbrev pub IsSameSaved : Option (List ℕ) → Option (List ℕ) → Files → Files → Files → Files → Type 0
+IsSameSaved (Some one) (Some other) old new from to =
+    (octets : List ℕ) × IsKept old new one octets × IsKept from to other octets
+IsSameSaved _ _ old new from to = Unit {0}
 
 -- a replay of these octets, in the same view, that tells faults in words if the ask did, and does its work, prints what
 -- the ask printed, and saves what the ask saved
-abbrev pub IsReprinted : View → Option (List ℕ) → List ℕ → MadeFiles → MadeFiles → Outputs → Outputs → Type 0
-IsReprinted view saved octets made remade before after =
-    (path : List ℕ) (again : Option (List ℕ)) (files filed : MadeFiles) (start end : Outputs) (ended : Status)
-    → AfterReplay view path again (Some octets) files filed start end ended → IsWell ended
+abbrev pub IsReprinted : View → Option (List ℕ) → List ℕ → Files → Files → Outputs → Outputs → Type 0
+IsReprinted view saved octets old new before after =
+    (path : List ℕ) (again : Option (List ℕ)) (from to : Files) (start end : Outputs) (ended : Status)
+    → AfterReplay view path again (Some octets) from to start end ended → IsWell ended
     → start.errors.explains ≡ before.errors.explains
-    → IsSameOutput before after start end × IsSameSaved saved again made remade files filed
+    → IsSameOutput before after start end × IsSameSaved saved again old new (begun_in from again) to
 
--- Hosts were asked, and the log at the path holds the lines of all entries. If why connections stopped is told by what
--- these say was noticed, each replay of that log that does its work prints the same.
+-- Hosts were asked, and the log at the path holds the lines of all entries. The facts were saved before it was ended,
+-- when the folder was `begun`, and then `saving`. If why connections stopped is told by what the entries say was
+-- noticed, each replay of that log that does its work prints the same.
 pub record IsReplayable (choice : ChoiceTexts) (search : SearchTexts) (view : View) (trace : List ℕ)
-    (logs : List MadeFile) (relogged : MadeFiles) (saved : Option (List ℕ)) (file : List ℕ) (made remade : MadeFiles)
-    (before after : Outputs) : Type 0 where
+    (saved : Option (List ℕ)) (file : List ℕ) (old new : Files) (before after : Outputs) : Type 0 where
   pub finished : Finished
   pub entries : List TraceEntry
+  pub begun : Files
+  pub saving : Files
   pub asked : AreAsked choice search view file finished
   pub traced : IsTraceOf choice search file finished entries
-  pub written : MakesFile (Some logs) relogged (record { path = trace; octets = trace_of entries })
+  pub logged : IsLogged (begun_in old saved) begun trace
+  pub closed : IsClosed saving new trace (trace_of entries)
   pub same : AreNoticed choice.limits (length traced.0.questions) finished entries
-      → IsReprinted view saved (trace_of entries) made remade before after
+      → IsReprinted view saved (trace_of entries) begun saving before after
 
 -- An `ask` with a trace that did its work can be replayed: what it was given are octets, and its limits are short.
 abbrev pub ReprintLaw : Type 0
 ReprintLaw =
-    (choice : ChoiceTexts) (search : SearchTexts) (view : View) (trace : List ℕ) (logs : List MadeFile)
-    (relogged : MadeFiles) (world : List ℕ) (saved : Option (List ℕ)) (file : List ℕ) (made remade : MadeFiles)
-    (before after : Outputs) (status : Status)
+    (choice : ChoiceTexts) (search : SearchTexts) (view : View) (trace world : List ℕ) (saved : Option (List ℕ))
+    (file : List ℕ) (old new : Files) (before after : Outputs) (status : Status)
     → AreWritable (given_entries file search choice.only) → AreShort choice.limits
-    → AfterTracedAsk choice search view (Some trace) (Some logs) relogged world saved (Some file) made remade before
-    after status
-    → IsWell status → IsReplayable choice search view trace logs relogged saved file made remade before after
+    → AfterTracedAsk choice search view (Some trace) world saved (Some file) old new before after status
+    → IsWell status → IsReplayable choice search view trace saved file old new before after

@@ -11,7 +11,7 @@ use Rattle.zoom.specs.Run.{IsRun}
 use Rattle.zoom.specs.RunMade.{IsMovedRunInMemory}
 use Rattle.zoom.specs.RunRounds.{IsCompleteRun}
 use Rattle.zmeta_devices.specs.declared.fault.Fault.{Fault}
-use Rattle.zmeta_devices.specs.declared.fault.Fault.TheVariants.{Read, Line, Memory}
+use Rattle.zmeta_devices.specs.declared.fault.Fault.TheVariants.{Line, Memory}
 use Rattle.zmeta_commands.specs.declared.finished.Finished.{Finished}
 use Rattle.zmeta_commands.specs.Worlds.{IsSearchedFile, IsSearchRefusal}
 use Rattle.zmeta_commands.specs.Finished.{asker, IsListed, IsOfSearchedWorld, Command, AfterCommand}
@@ -32,7 +32,6 @@ IsLineAtFault search file number =
 abbrev pub ReadInMemoryResult : SearchTexts → List ℕ → Result InMemoryRun Fault → Type 0
 ReadInMemoryResult search file (Ok a) = IsInMemoryFile search file a
 ReadInMemoryResult search file (Err (Line number)) = IsLineAtFault search file number
-ReadInMemoryResult search file (Err (Read path)) = Unit {0}
 ReadInMemoryResult search file (Err Memory) = Unit {0}
 ReadInMemoryResult search file (Err f) = IsSearchRefusal search f
 
@@ -58,12 +57,11 @@ IsCompleteFileRun search view file r = (a : InMemoryRun) × IsInMemoryFile searc
 abbrev pub RunFileResult : SearchTexts → View → List ℕ → Result Finished Fault → Type 0
 RunFileResult search view file (Ok r) = IsCompleteFileRun search view file r
 RunFileResult search view file (Err (Line number)) = IsLineAtFault search file number
-RunFileResult search view file (Err (Read path)) = Unit {0}
 RunFileResult search view file (Err Memory) = Unit {0}
 RunFileResult search view file (Err f) = IsSearchRefusal search f
 
 -- ---- the command
 
--- the files made, the streams and the status after `run`
+-- the folder, the streams and the status after `run`
 abbrev pub AfterRun : SearchTexts → View → Command
 AfterRun search view = AfterCommand (RunFileResult search view) IsOfSearchedWorld

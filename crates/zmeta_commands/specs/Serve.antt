@@ -70,7 +70,6 @@ HasServed serves w file result = (world : World) × IsWorld file world × ServeW
 abbrev pub ServeResult : Serves → Wanted → List ℕ → Result (Unit {0}) Fault → Type 0
 ServeResult serves w file (Ok done) = HasServed serves w file (Ok done)
 ServeResult serves w file (Err (Line number)) = IsRefused file number
-ServeResult serves w file (Err (Read path)) = Unit {0}
 ServeResult serves w file (Err Serve) = HasServed serves w file (Err Serve)
 ServeResult serves w file (Err Memory) = Unit {0}
 ServeResult serves w file (Err _) = ⊥

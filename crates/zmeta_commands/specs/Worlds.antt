@@ -11,14 +11,13 @@ use Rattle.zmeta_world.specs.declared.network.NetworkRun.{NetworkRun}
 use Rattle.zmeta_world.specs.NetworkRuns.{IsNetworkRun, IsFirstTargetLine}
 use Rattle.zmeta_world.specs.declared.search.SearchError.TheVariants as searches
 use Rattle.zmeta_devices.specs.declared.fault.Fault.{Fault}
-use Rattle.zmeta_devices.specs.declared.fault.Fault.TheVariants.{Read, Line, Query, Wanted, Syntax, Memory}
+use Rattle.zmeta_devices.specs.declared.fault.Fault.TheVariants.{Line, Query, Wanted, Syntax, Memory}
 use Rattle.zmeta_commands.specs.Finished.{asker}
 
 -- the world of a file, or the line that is refused
 abbrev pub WorldResult : List ℕ → Result World Fault → Type 0
 WorldResult file (Ok world) = IsWorld file world
 WorldResult file (Err (Line number)) = IsRefused file number
-WorldResult file (Err (Read path)) = Unit {0}
 WorldResult file (Err Memory) = Unit {0}
 WorldResult file (Err _) = ⊥
 
@@ -42,7 +41,6 @@ IsSearchRefusal search _ = ⊥
 abbrev pub SearchedResult : SearchTexts → List ℕ → Result World Fault → Type 0
 SearchedResult search file (Ok put) = IsSearchedFile search file put
 SearchedResult search file (Err (Line number)) = IsRefused file number
-SearchedResult search file (Err (Read path)) = Unit {0}
 SearchedResult search file (Err Memory) = Unit {0}
 SearchedResult search file (Err f) = IsSearchRefusal search f
 

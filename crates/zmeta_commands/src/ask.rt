@@ -5,15 +5,19 @@ ghost use Rattle.std.specs.Option.{option_map};
 ghost use Rattle.zmeta_world.specs.Search.{search_texts};
 ghost use Rattle.zoom.specs.Asking.{IsTracedAsk};
 ghost use Rattle.zmeta_devices.specs.Devices.{outputs};
+ghost use Rattle.zmeta_devices.specs.Files.{folder};
+ghost use Rattle.zmeta_offline.specs.Saved.{IsBegunIf, saving_path};
+ghost use Rattle.zmeta_commands.specs.Begun.{IsTraceBegun, IsOpenIf};
 ghost use Rattle.zmeta_commands.specs.Finished.{HasNames, IsOfSearchedWorld};
 ghost use Rattle.zmeta_args.specs.Texts.{texts_of};
 ghost use Rattle.zmeta_commands.specs.Choice.{choice_texts, AddressesResult};
 ghost use Rattle.zmeta_searches.specs.Searches.{search_of};
 ghost use Rattle.zmeta_commands.specs.Ask.{CanBeAsked, IsAskedAt, AskNetworkResult, AskFileResult, IsOfAsking};
 ghost use Rattle.zmeta_commands.specs.CatalogueFiles.{AfterNamedAsk};
-ghost use Rattle.zmeta_commands.specs.Traced.{PlannedResult, IsTracedNetwork, IsTracedFile, AfterTracedAsk, finished_of};
+ghost use Rattle.zmeta_commands.specs.Traced.{PlannedResult, IsTracedNetwork, IsTracedFile, ConcludeResult, AfterTracedAsk, finished_of};
 
-use crate::catalogue_files::{ask_union, conclude_union, refuse_trace};
+use crate::begun::{begin_saving, check_trace};
+use crate::catalogue_files::{ask_catalogues, refuse_trace};
 use crate::choice::{Choice, addresses_of};
 use crate::finished::{Finished, ListTerms, Paths, conclude};
 use crate::progress::Progress;
@@ -26,9 +30,10 @@ use std::net::Net;
 use std::time::Clock;
 use zmeta_args::{LimitOptions, SearchOptions, View};
 use zmeta_catalogue_files::is_catalogue_file;
-use zmeta_devices::fault::{Fault, Status};
+use zmeta_devices::fault::{Fault, Status, end};
 use zmeta_devices::files::Folder;
 use zmeta_devices::output::Output;
+use zmeta_offline::saved::Saving;
 use zmeta_searches::copy_search;
 use zmeta_world::network::NetworkRun;
 use zmeta_world::search::Search;
@@ -84,13 +89,16 @@ pub(crate) struct Answered<T> {
 /// has one. The records of a catalogue whose file gives a charset are read in it, in all views but the list.
 ///
 /// Writes a line on `errors` for each connection that failed. If `paths` has a path `saved`, then makes one file
-/// there, the saved file of the facts, and returns `Done` or `Failed` only if it holds them all. Makes no other file.
-/// If nothing is printed or not all is saved, writes the reason on `errors`.
+/// there, the saved file of the facts, and returns `Done` or `Failed` only if it holds them all. Changes no other file
+/// but the trace. If nothing is printed or not all is saved, writes the reason on `errors`.
 ///
 /// If `trace` is a path, begins a log there once the world file is read, and writes in it, while it asks, what was
-/// given, and each report and action with its time. If that fails, it asks all the same, writes the reason on `errors`
-/// in the end, and returns `Refused`, unless it returns `Memory`. For a file of catalogues, which no trace can hold, it
-/// reads nothing, writes the reason on `errors` and returns `Refused`, or `Memory`.
+/// given, and each report and action with its time. If that fails then, it writes the reason on `errors` in the end,
+/// and returns `Refused`, unless it returns `Memory`. For a file of catalogues, which no trace can hold, it reads
+/// nothing, writes the reason on `errors` and returns `Refused`, or `Memory`.
+///
+/// If no draft of the saved file can be begun, or no log, or if two of the three paths are those of one file, nobody is
+/// asked, and the reason is written on `errors`.
 ///
 /// Returns `Refused` if a file or a stream failed, `errors` too. Else returns `Failed` if a search, an association or a
 /// connection failed, a host closed a connection first, or a chosen question was not asked. While it asks, it writes
@@ -104,24 +112,48 @@ pub fn ask_named<'a, 'o: 'a, S: Folder + Net + Clock, W: Write, E: Write, P: Wri
     errors: &mut Output<'_, E>,
 ) -> Status
     ensures { AfterNamedAsk (choice_texts options.entry.choice) options.entry.given.now options.entry.search.now
-        options.entry.view (option_map (λ path. path.now) options.entry.trace) (S.logged system.old)
-        (S.logged system.new) options.entry.paths.world.now
+        options.entry.view (option_map (λ path. path.now) options.entry.trace) options.entry.paths.world.now
         (option_map (λ path. path.now) options.entry.paths.saved) (S.octets system.old options.entry.paths.world.now)
-        (S.made system.old) (S.made system.new) (outputs W.contents E.contents output.old errors.old)
+        (folder S.octets S.are_one S.steps system.old) (folder S.octets S.are_one S.steps system.new)
+        (outputs W.contents E.contents output.old errors.old)
+        (outputs W.contents E.contents output.new errors.new) result }
+{
+    if !is_catalogue_file(options.paths.world) {
+        return ask_world(alloc, system, options, screen, output, errors);
+    }
+    match options.trace {
+        Some(_) => refuse_trace(alloc, options.paths.world, errors),
+        None => ask_catalogues(alloc, system, options, screen, output, errors),
+    }
+}
+
+/// Asks the hosts of the world file, prints the list, reports failed connections and saves the facts, or reports the
+/// fault.
+fn ask_world<'a, 'o: 'a, S: Folder + Net + Clock, W: Write, E: Write, P: Write + Drop>(
+    alloc: Global,
+    system: &mut S,
+    options: AskOptions<'a, '_>,
+    screen: Option<P>,
+    output: &mut Output<'o, W>,
+    errors: &mut Output<'_, E>,
+) -> Status
+    ensures { AfterTracedAsk (choice_texts options.entry.choice) (search_of options.entry.search.now)
+        options.entry.view (option_map (λ path. path.now) options.entry.trace) options.entry.paths.world.now
+        (option_map (λ path. path.now) options.entry.paths.saved) (S.octets system.old options.entry.paths.world.now)
+        (folder S.octets S.are_one S.steps system.old) (folder S.octets S.are_one S.steps system.new)
+        (outputs W.contents E.contents output.old errors.old)
         (outputs W.contents E.contents output.new errors.new) result }
 {
     let paths = options.paths;
-    if !is_catalogue_file(paths.world) {
-        let asked = ask_file(alloc, system, options, screen);
-        return conclude_world(alloc, system, asked, options, output, errors);
+    if let Err(fault) = check_trace(system, paths.world, paths.saved, options.trace) {
+        return end(Err(fault), errors);
     }
-    match options.trace {
-        Some(_) => refuse_trace(alloc, paths.world, errors),
-        None => {
-            let asked = ask_union(alloc, system, options, screen);
-            conclude_union(alloc, system, asked, paths, output, errors)
-        }
-    }
+    let saving = match begin_saving(system, paths.world, paths.saved) {
+        Ok(saving) => saving,
+        Err(fault) => return end(Err(fault), errors),
+    };
+    let asked = ask_file(alloc, system, options, screen);
+    conclude_world(alloc, system, asked, saving, options.trace, output, errors)
 }
 
 /// Ends asking the hosts of a world file with this result of `ask_file`: prints the list, reports failed connections
@@ -130,36 +162,30 @@ fn conclude_world<'a, 'o: 'a, F: Folder, W: Write, E: Write>(
     alloc: Global,
     files: &mut F,
     asked: Result<Answered<F::Log>, Fault<'a>>,
-    options: AskOptions<'a, '_>,
+    saving: Option<Saving<'a, F::Draft>>,
+    trace: Option<&str>,
     output: &mut Output<'o, W>,
     errors: &mut Output<'_, E>,
 ) -> Status
-    requires asked { IfSome (F.octets files.old options.paths.world.now)
-        (λ octets. AskFileResult (choice_texts options.choice) (search_of options.search.now) options.view octets
-        (finished_of asked)) }
-    requires traced { IfOk asked (λ answered. IsTracedFile F.Log.contents (F.logged files.old)
-        (choice_texts options.choice) (search_of options.search.now) (F.octets files.old options.paths.world.now)
-        answered.finished answered.trace) }
+    requires open { IfOk asked (λ _. IsOpenIf (option_map (λ path. path.now) trace) (F.steps files.old)) }
     requires names { IfOk asked (λ answered. HasNames answered.finished) }
-    requires fault { IfErr asked (IsOfAsking options.paths.world.now) }
-    ensures { AfterTracedAsk (choice_texts options.entry.choice) (search_of options.entry.search.now)
-        options.entry.view (option_map (λ path. path.now) options.entry.trace) (F.logged files.old)
-        (F.logged files.new) options.entry.paths.world.now
-        (option_map (λ path. path.now) options.entry.paths.saved) (F.octets files.old options.entry.paths.world.now)
-        (F.made files.old) (F.made files.new) (outputs W.contents E.contents output.old errors.old)
+    requires begun { IsBegunIf F.Draft.contents (F.steps files.old) saving }
+    ensures { ConcludeResult F.Log.contents asked.entry (saving_path saving.entry)
+        (option_map (λ path. path.now) trace.entry)
+        (folder F.octets F.are_one F.steps files.old) (folder F.octets F.are_one F.steps files.new)
+        (outputs W.contents E.contents output.old errors.old)
         (outputs W.contents E.contents output.new errors.new) result }
 {
-    let saved = options.paths.saved;
     match asked {
         Ok(answered) => {
             let Answered {
                 finished,
                 trace: left,
             } = answered;
-            let status = conclude(alloc, files, Ok(finished), saved, output, errors);
-            end_trace(files, options.trace, left, status, errors)
+            let status = conclude(alloc, files, Ok(finished), saving, output, errors);
+            end_trace(files, trace, left, status, errors)
         }
-        Err(fault) => conclude(alloc, files, Err(fault), saved, output, errors),
+        Err(fault) => conclude(alloc, files, Err(fault), saving, output, errors),
     }
 }
 
@@ -167,18 +193,21 @@ fn conclude_world<'a, 'o: 'a, F: Folder, W: Write, E: Write>(
 #[tactic(auto, using(crate::proofs::Planning::ask_faults, crate::proofs::Tracing::traced_file))]
 fn ask_file<'a, S: Folder + Net + Clock, P: Write + Drop>(
     alloc: Global,
-    system: &S,
+    system: &mut S,
     options: AskOptions<'a, '_>,
     screen: Option<P>,
 ) -> Result<Answered<S::Log>, Fault<'a>>
-    ensures asked { IfSome (S.octets system.now options.entry.paths.world.now)
+    ensures asked { IfSome (S.octets system.old options.entry.paths.world.now)
         (λ octets. AskFileResult (choice_texts options.entry.choice) (search_of options.entry.search.now)
         options.entry.view octets (finished_of result)) }
-    ensures traced { IfOk result (λ answered. IsTracedFile S.Log.contents (S.logged system.now)
+    ensures traced { IfOk result (λ answered. IsTracedFile S.Log.contents (S.steps system.new)
         (choice_texts options.entry.choice) (search_of options.entry.search.now)
-        (S.octets system.now options.entry.paths.world.now) answered.finished answered.trace) }
+        (S.octets system.old options.entry.paths.world.now) answered.finished answered.trace) }
+    ensures begun { IsTraceBegun (option_map (λ path. path.now) options.entry.trace)
+        (folder S.octets S.are_one S.steps system.old) (folder S.octets S.are_one S.steps system.new) result }
     ensures names { IfOk result (λ answered. HasNames answered.finished) }
-    ensures fault { IfErr result (IsOfAsking options.entry.paths.world.now) }
+    ensures fault { IfErr result (IsOfAsking (option_map (λ path. path.now) options.entry.trace)
+        options.entry.paths.world.now) }
 {
     let search = options.search;
     let copy = copy_search(alloc, search)?;
@@ -207,9 +236,10 @@ fn read_network<'a, F: Folder>(
 }
 
 /// Asks the hosts of the chosen questions, and makes the list.
+#[tactic(auto, using(crate::proofs::Planning::choice_faults, crate::proofs::Tracing::begun_still))]
 fn ask_network<'a, S: Folder + Net + Clock, P: Write + Drop>(
     alloc: Global,
-    system: &S,
+    system: &mut S,
     planned: Planned,
     options: AskOptions<'a, '_>,
     texts: &Search<'_>,
@@ -218,9 +248,13 @@ fn ask_network<'a, S: Folder + Net + Clock, P: Write + Drop>(
     requires { CanBeAsked planned.network }
     ensures asked { AskNetworkResult (choice_texts options.entry.choice) [] options.entry.view planned.network
         (finished_of result) }
-    ensures traced { IfOk result (λ answered. IsTracedNetwork S.Log.contents (S.logged system.now)
+    ensures traced { IfOk result (λ answered. IsTracedNetwork S.Log.contents (S.steps system.new)
         (choice_texts options.entry.choice) (search_texts texts.now) planned answered.finished answered.trace) }
+    ensures begun { IsTraceBegun (option_map (λ path. path.now) options.entry.trace)
+        (folder S.octets S.are_one S.steps system.old) (folder S.octets S.are_one S.steps system.new) result }
     ensures names { IfOk result (λ answered. HasNames answered.finished) }
+    ensures fault { IfErr result (IsOfAsking (option_map (λ path. path.now) options.entry.trace)
+        options.entry.paths.world.now) }
 {
     let Planned { world, network } = planned;
     let choice = options.choice;

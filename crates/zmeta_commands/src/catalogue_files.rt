@@ -1,17 +1,20 @@
 //! The command `ask` for a file of catalogues: puts one search to all of them.
 
-ghost use Rattle.std.specs.Prelude.{◌≡◌, IfOk, IfErr, IfSome};
+ghost use Rattle.std.specs.Prelude.{◌≡◌, IfOk, IfErr, IfSome, None};
 ghost use Rattle.std.specs.Option.{option_map};
 ghost use Rattle.zmeta_catalogue_files.specs.declared.refusal.UnionFault.TheVariants as unions;
 ghost use Rattle.zmeta_devices.specs.Devices.{output_device, outputs};
+ghost use Rattle.zmeta_devices.specs.Files.{folder};
+ghost use Rattle.zmeta_offline.specs.Saved.{IsBegunIf, saving_path};
 ghost use Rattle.zmeta_commands.specs.Ask.{CanBeAsked};
-ghost use Rattle.zmeta_commands.specs.CatalogueFiles.{own_seconds, IsSpan, IsOwnWait, AreOwnWaits, PlanUnionResult, AskUnionResult, IsOfUnionPlan, IsOfUnionAsk, AfterUnionAsked, trace_line, AfterTraceRefused};
+ghost use Rattle.zmeta_commands.specs.CatalogueFiles.{own_seconds, IsSpan, IsOwnWait, AreOwnWaits, PlanUnionResult, AskUnionResult, IsOfUnionPlan, IsOfUnionAsk, AfterUnionAsked, AfterUnionAsk, trace_line, AfterTraceRefused};
 ghost use Rattle.zmeta_commands.specs.Choice.{choice_texts};
 ghost use Rattle.zmeta_commands.specs.Finished.{HasNames};
 
 use crate::ask::{Answered, AskOptions, HostTerms, ask_chosen, chosen_of};
+use crate::begun::{begin_saving, discard};
 use crate::choice::seconds;
-use crate::finished::{Finished, ListTerms, Paths, conclude};
+use crate::finished::{Finished, ListTerms, conclude};
 use crate::worlds::plan;
 use std::alloc::{AllocError, Global};
 use std::io::Write;
@@ -20,9 +23,10 @@ use std::time::{Clock, Duration};
 use zmarc::Charset;
 use zmeta_args::{LimitOptions, SearchOptions};
 use zmeta_catalogue_files::{CatalogueWaits, Union, UnionFault, union_at};
-use zmeta_devices::fault::{Fault, Status};
+use zmeta_devices::fault::{Fault, Status, end};
 use zmeta_devices::files::Folder;
 use zmeta_devices::output::Output;
+use zmeta_offline::saved::Saving;
 use zmeta_world::network::NetworkRun;
 use zoom::{HostWaits, Tracer};
 
@@ -118,7 +122,7 @@ fn plan_union<'a, F: Folder>(
 /// an option says; if none does, as its file says; else as `choice` does. The records of a catalogue are read in the
 /// charset that its file gives, if it gives one.
 #[tactic(auto, using(crate::proofs::Unions::ask_faults))]
-pub(crate) fn ask_union<'a, S: Folder + Net + Clock, P: Write + Drop>(
+fn ask_union<'a, S: Folder + Net + Clock, P: Write + Drop>(
     alloc: Global,
     system: &S,
     options: AskOptions<'a, '_>,
@@ -156,26 +160,63 @@ pub(crate) fn ask_union<'a, S: Folder + Net + Clock, P: Write + Drop>(
     Ok(finished)
 }
 
-/// Ends asking the catalogues of a file with this result: prints the list, reports failed connections and saves the
-/// facts, or reports the fault.
-pub(crate) fn conclude_union<'a, 'o: 'a, F: Folder, W: Write, E: Write>(
+/// Asks the chosen catalogues of the file at the path `paths.world`, prints the list, reports failed connections and
+/// saves the facts, or reports the fault. No trace is written.
+pub(crate) fn ask_catalogues<
+    'a,
+    'o: 'a,
+    S: Folder + Net + Clock,
+    W: Write,
+    E: Write,
+    P: Write + Drop,
+>(
     alloc: Global,
-    files: &mut F,
-    asked: Result<Finished, UnionFault<'a>>,
-    paths: Paths<'a>,
+    system: &mut S,
+    options: AskOptions<'a, '_>,
+    screen: Option<P>,
     output: &mut Output<'o, W>,
     errors: &mut Output<'_, E>,
 ) -> Status
-    requires { IfOk asked HasNames }
-    ensures asked { AfterUnionAsked paths.entry.world.now asked.entry
-        (option_map (λ path. path.now) paths.entry.saved) (F.made files.old) (F.made files.new)
+    ensures { AfterUnionAsk (choice_texts options.entry.choice) options.entry.given.now options.entry.search.now
+        options.entry.view None options.entry.paths.world.now
+        (option_map (λ path. path.now) options.entry.paths.saved) (S.octets system.old options.entry.paths.world.now)
+        (folder S.octets S.are_one S.steps system.old) (folder S.octets S.are_one S.steps system.new)
         (outputs W.contents E.contents output.old errors.old)
         (outputs W.contents E.contents output.new errors.new) result }
-    ensures logged { F.logged files.new ≡ F.logged files.old }
+{
+    let paths = options.paths;
+    let saving = match begin_saving(system, paths.world, paths.saved) {
+        Ok(saving) => saving,
+        Err(fault) => return end(Err(fault), errors),
+    };
+    let asked = ask_union(alloc, system, options, screen);
+    conclude_union(alloc, system, asked, paths.world, saving, output, errors)
+}
+
+/// Ends asking the catalogues of a file with this result: prints the list, reports failed connections and saves the
+/// facts, or reports the fault.
+fn conclude_union<'a, 'o: 'a, F: Folder, W: Write, E: Write>(
+    alloc: Global,
+    files: &mut F,
+    asked: Result<Finished, UnionFault<'a>>,
+    path: &str,
+    saving: Option<Saving<'a, F::Draft>>,
+    output: &mut Output<'o, W>,
+    errors: &mut Output<'_, E>,
+) -> Status
+    requires names { IfOk asked HasNames }
+    requires begun { IsBegunIf F.Draft.contents (F.steps files.old) saving }
+    ensures { AfterUnionAsked path.now asked.entry (saving_path saving.entry)
+        (folder F.octets F.are_one F.steps files.old) (folder F.octets F.are_one F.steps files.new)
+        (outputs W.contents E.contents output.old errors.old)
+        (outputs W.contents E.contents output.new errors.new) result }
 {
     match asked {
-        Ok(finished) => conclude(alloc, files, Ok(finished), paths.saved, output, errors),
-        Err(fault) => fault.report(alloc, paths.world, errors),
+        Ok(finished) => conclude(alloc, files, Ok(finished), saving, output, errors),
+        Err(fault) => {
+            discard(files, saving);
+            fault.report(alloc, path, errors)
+        }
     }
 }
 

@@ -1,6 +1,7 @@
 //! From the arguments of the command line to the command that they ask for.
 ghost use Rattle.std.specs.Prelude.{◌≡◌, Err, IfErr, IfOk, MatchResult, map, string_bytes};
 ghost use Rattle.zmeta_devices.specs.Devices.{output_device, outputs, streams, explaining_streams};
+ghost use Rattle.zmeta_devices.specs.Files.{folder};
 ghost use Rattle.zmeta_commands.specs.Arguments.{AfterCall, AfterArguments, AfterUsage, IsWrong};
 ghost use Rattle.zmeta_commands.specs.Serve.{ServedAt};
 
@@ -16,7 +17,7 @@ use crate::serve::{Service, serve_named};
 use crate::usage::print_usage;
 use clap::Error;
 use std::alloc::Global;
-use std::io::{ErrorKind, Read, Write};
+use std::io::{ErrorKind, Write};
 use std::net::Net;
 use std::time::Clock;
 use zmeta_args::{Arguments, CommandLine, odd_arguments, parse};
@@ -25,6 +26,7 @@ use zmeta_devices::fault::{Fault, Status};
 use zmeta_devices::files::Folder;
 use zmeta_devices::input::Input;
 use zmeta_devices::output::Output;
+use zmeta_devices::readable::Readable;
 use zmeta_offline::join::{join_named, join_saved};
 use zmeta_offline::merged::merge_named;
 use zmeta_offline::new::new_named;
@@ -40,7 +42,7 @@ use zmeta_offline::show::show;
 /// or `Memory`.
 ///
 /// `ask` writes its progress on `screen`, if there is one.
-pub fn run<'a, S: Folder + Doors + Net + Clock, R: Read, W: Write, E: Write, P: Write + Drop>(
+pub fn run<'a, S: Folder + Doors + Net + Clock, R: Readable, W: Write, E: Write, P: Write + Drop>(
     alloc: Global,
     system: &mut S,
     arguments: Result<&[String], ErrorKind>,
@@ -50,9 +52,8 @@ pub fn run<'a, S: Folder + Doors + Net + Clock, R: Read, W: Write, E: Write, P: 
     screen: Option<P>,
 ) -> Status
     ensures done { IfOk arguments.entry (λ arguments. AfterArguments
-        S.Stream (ServedAt S S.Client S.IsAt (S.IsShut system.old)) (S.octets system.old)
-        (S.logged system.old) (S.logged system.new) (map string_bytes arguments.now)
-        (S.made system.old) (S.made system.new)
+        S.Stream (ServedAt S S.Client S.IsAt (S.IsShut system.old)) (map string_bytes arguments.now)
+        (folder S.octets S.are_one S.steps system.old) (folder S.octets S.are_one S.steps system.new)
         (streams R.remaining W.contents E.contents input.old output.old errors.old)
         (streams R.remaining W.contents E.contents input.new output.new errors.new) result) }
     ensures wrong { IfErr arguments.entry (λ _. IsWrong result) }
@@ -60,7 +61,7 @@ pub fn run<'a, S: Folder + Doors + Net + Clock, R: Read, W: Write, E: Write, P: 
     ensures silent { IfErr arguments.entry (λ _. output_device W.contents output.new
         ≡ output_device W.contents output.old) }
     ensures unread { IfErr arguments.entry (λ _. input.new ≡ input.old) }
-    ensures unmade { IfErr arguments.entry (λ _. S.made system.new ≡ S.made system.old) }
+    ensures unmade { IfErr arguments.entry (λ _. system.new ≡ system.old) }
 {
     match arguments {
         Ok(arguments) => run_arguments(alloc, system, arguments, input, output, errors, screen),
@@ -69,7 +70,14 @@ pub fn run<'a, S: Folder + Doors + Net + Clock, R: Read, W: Write, E: Write, P: 
 }
 
 /// Runs the command that the arguments ask for.
-fn run_arguments<'a, S: Folder + Doors + Net + Clock, R: Read, W: Write, E: Write, P: Write + Drop>(
+fn run_arguments<
+    'a,
+    S: Folder + Doors + Net + Clock,
+    R: Readable,
+    W: Write,
+    E: Write,
+    P: Write + Drop,
+>(
     alloc: Global,
     system: &mut S,
     arguments: &[String],
@@ -78,9 +86,9 @@ fn run_arguments<'a, S: Folder + Doors + Net + Clock, R: Read, W: Write, E: Writ
     errors: &mut Output<'a, E>,
     screen: Option<P>,
 ) -> Status
-    ensures { AfterArguments S.Stream (ServedAt S S.Client S.IsAt (S.IsShut system.old)) (S.octets system.old)
-        (S.logged system.old) (S.logged system.new) (map string_bytes arguments.now)
-        (S.made system.old) (S.made system.new)
+    ensures { AfterArguments S.Stream (ServedAt S S.Client S.IsAt (S.IsShut system.old))
+        (map string_bytes arguments.now)
+        (folder S.octets S.are_one S.steps system.old) (folder S.octets S.are_one S.steps system.new)
         (streams R.remaining W.contents E.contents input.old output.old errors.old)
         (streams R.remaining W.contents E.contents input.new output.new errors.new) result }
 {
@@ -89,7 +97,14 @@ fn run_arguments<'a, S: Folder + Doors + Net + Clock, R: Read, W: Write, E: Writ
 }
 
 /// Runs the command that was asked for, or reports why there is none.
-fn run_parsed<'a, S: Folder + Doors + Net + Clock, R: Read, W: Write, E: Write, P: Write + Drop>(
+fn run_parsed<
+    'a,
+    S: Folder + Doors + Net + Clock,
+    R: Readable,
+    W: Write,
+    E: Write,
+    P: Write + Drop,
+>(
     alloc: Global,
     system: &mut S,
     asked: Result<CommandLine<'_>, Error>,
@@ -99,11 +114,11 @@ fn run_parsed<'a, S: Folder + Doors + Net + Clock, R: Read, W: Write, E: Write, 
     screen: Option<P>,
 ) -> Status
     ensures { MatchResult asked.entry
-        (λ line. AfterCall S.Stream (ServedAt S S.Client S.IsAt (S.IsShut system.old)) (S.octets system.old)
-        (S.logged system.old) (S.logged system.new) line.command (S.made system.old) (S.made system.new)
+        (λ line. AfterCall S.Stream (ServedAt S S.Client S.IsAt (S.IsShut system.old)) line.command
+        (folder S.octets S.are_one S.steps system.old) (folder S.octets S.are_one S.steps system.new)
         (explaining_streams line.explain (streams R.remaining W.contents E.contents input.old output.old errors.old))
         (streams R.remaining W.contents E.contents input.new output.new errors.new) result)
-        (λ error. (S.made system.new ≡ S.made system.old) × (input.new ≡ input.old)
+        (λ error. (system.new ≡ system.old) × (input.new ≡ input.old)
         × AfterUsage error (outputs W.contents E.contents output.old errors.old)
         (outputs W.contents E.contents output.new errors.new) result) }
 {
@@ -137,7 +152,7 @@ fn refuse<'a, W: Write, E: Write>(
 }
 
 /// Runs a command with its arguments.
-fn call<'a, S: Folder + Doors + Net + Clock, R: Read, W: Write, E: Write, P: Write + Drop>(
+fn call<'a, S: Folder + Doors + Net + Clock, R: Readable, W: Write, E: Write, P: Write + Drop>(
     alloc: Global,
     system: &mut S,
     asked: Arguments<'_>,
@@ -146,8 +161,8 @@ fn call<'a, S: Folder + Doors + Net + Clock, R: Read, W: Write, E: Write, P: Wri
     errors: &mut Output<'a, E>,
     screen: Option<P>,
 ) -> Status
-    ensures { AfterCall S.Stream (ServedAt S S.Client S.IsAt (S.IsShut system.old)) (S.octets system.old)
-        (S.logged system.old) (S.logged system.new) asked.entry (S.made system.old) (S.made system.new)
+    ensures { AfterCall S.Stream (ServedAt S S.Client S.IsAt (S.IsShut system.old)) asked.entry
+        (folder S.octets S.are_one S.steps system.old) (folder S.octets S.are_one S.steps system.new)
         (streams R.remaining W.contents E.contents input.old output.old errors.old)
         (streams R.remaining W.contents E.contents input.new output.new errors.new) result }
 {

@@ -1,10 +1,12 @@
 //! The end of a command that asks: prints the list, reports failed connections, and saves the facts.
 
-ghost use Rattle.std.specs.Prelude.{◌≡◌, ◌<◌, ◌^◌, length, IfOk};
-ghost use Rattle.std.specs.Option.{option_map};
+ghost use Rattle.std.specs.Prelude.{◌<◌, ◌^◌, length, IfOk};
 ghost use Rattle.zmeta_devices.specs.Devices.{outputs};
+ghost use Rattle.zmeta_devices.specs.Files.{folder};
+ghost use Rattle.zmeta_offline.specs.Saved.{IsBegunIf, saving_path};
 ghost use Rattle.zmeta_commands.specs.Finished.{HasNames, IsListed, PutFinishedResult, SaveResult, FinishResult, AfterAsked};
 
+use crate::begun::discard;
 use crate::failures::{Told, failure_lines};
 use crate::stops::stops_of;
 use crate::trouble::finished_status;
@@ -19,7 +21,7 @@ use zmeta_args::View;
 use zmeta_devices::fault::{Fault, Status, end, report_failure};
 use zmeta_devices::files::Folder;
 use zmeta_devices::output::Output;
-use zmeta_offline::saved::save_facts;
+use zmeta_offline::saved::{Saving, save_facts};
 use zmeta_offline::view::print_view;
 use zoom::{HostWaits, Limits, Meta, Notice};
 
@@ -121,31 +123,31 @@ fn put_finished<'o, W: Write, E: Write>(
     Ok(())
 }
 
-/// Saves the facts if a path is given, in one file that is made there.
+/// Saves the facts if a draft was begun, in the file that is made of it.
 fn save_finished<'a, F: Folder>(
     alloc: Global,
     files: &mut F,
-    path: Option<&'a str>,
+    saving: Option<Saving<'a, F::Draft>>,
     finished: &Finished,
 ) -> Result<(), Fault<'a>>
-    ensures saved { SaveResult finished.now (option_map (λ path. path.now) path.entry)
-        (F.made files.old) (F.made files.new) result }
-    ensures logged { F.logged files.new ≡ F.logged files.old }
+    requires { IsBegunIf F.Draft.contents (F.steps files.old) saving }
+    ensures { SaveResult finished.now (saving_path saving.entry)
+        (folder F.octets F.are_one F.steps files.old) (folder F.octets F.are_one F.steps files.new) result }
 {
-    match path {
+    match saving {
         None => Ok(()),
-        Some(path) => save_facts(
+        Some(saving) => save_facts(
             alloc,
             files,
-            path,
+            saving,
             finished.meta.knowledge(),
             &finished.names,
         ),
     }
 }
 
-/// Prints the list, reports the failed connections, and then saves the facts if a path is given, whatever became of the
-/// list.
+/// Prints the list, reports the failed connections, and then saves the facts if a draft was begun, whatever became of
+/// the list.
 ///
 /// Returns the status, if standard error does not fail. If both fail, reports why the list failed, and returns why the
 /// facts were not saved.
@@ -153,18 +155,19 @@ fn finish<'a, 'o: 'a, F: Folder, W: Write, E: Write>(
     alloc: Global,
     files: &mut F,
     finished: &Finished,
-    saved: Option<&'a str>,
+    saving: Option<Saving<'a, F::Draft>>,
     output: &mut Output<'o, W>,
     errors: &mut Output<'_, E>,
 ) -> Result<Status, Fault<'a>>
-    requires { HasNames finished.now }
-    ensures finished { FinishResult finished.now (option_map (λ path. path.now) saved.entry)
-        (F.made files.old) (F.made files.new) (outputs W.contents E.contents output.old errors.old)
+    requires names { HasNames finished.now }
+    requires begun { IsBegunIf F.Draft.contents (F.steps files.old) saving }
+    ensures { FinishResult finished.now (saving_path saving.entry)
+        (folder F.octets F.are_one F.steps files.old) (folder F.octets F.are_one F.steps files.new)
+        (outputs W.contents E.contents output.old errors.old)
         (outputs W.contents E.contents output.new errors.new) result }
-    ensures logged { F.logged files.new ≡ F.logged files.old }
 {
     let printed = put_finished(alloc, finished, output, errors);
-    match save_finished(alloc, files, saved, finished) {
+    match save_finished(alloc, files, saving, finished) {
         Ok(()) => {
             printed?;
             Ok(finished_status(finished))
@@ -179,29 +182,33 @@ fn finish<'a, 'o: 'a, F: Folder, W: Write, E: Write>(
 /// Ends a command that asked with this result: prints the list, reports the failed connections and saves the facts, or
 /// reports the fault. `run`, `ask` and `loop` all end here.
 ///
-/// If the facts were saved, exactly one file was made: at the path, with the octets of the saved file. They are saved
-/// also if the list cannot be written.
+/// If the facts were saved, exactly one file changed: that at the path, which has the octets of the saved file. They
+/// are saved also if the list cannot be written.
 pub(crate) fn conclude<'a, 'o: 'a, F: Folder, W: Write, E: Write>(
     alloc: Global,
     files: &mut F,
     asked: Result<Finished, Fault<'a>>,
-    saved: Option<&'a str>,
+    saving: Option<Saving<'a, F::Draft>>,
     output: &mut Output<'o, W>,
     errors: &mut Output<'_, E>,
 ) -> Status
-    requires { IfOk asked HasNames }
-    ensures asked { AfterAsked asked.entry (option_map (λ path. path.now) saved.entry)
-        (F.made files.old) (F.made files.new) (outputs W.contents E.contents output.old errors.old)
+    requires names { IfOk asked HasNames }
+    requires begun { IsBegunIf F.Draft.contents (F.steps files.old) saving }
+    ensures { AfterAsked asked.entry (saving_path saving.entry)
+        (folder F.octets F.are_one F.steps files.old) (folder F.octets F.are_one F.steps files.new)
+        (outputs W.contents E.contents output.old errors.old)
         (outputs W.contents E.contents output.new errors.new) result }
-    ensures logged { F.logged files.new ≡ F.logged files.old }
 {
     match asked {
         Ok(finished) => {
-            let ended = finish(alloc, files, &finished, saved, output, errors);
+            let ended = finish(alloc, files, &finished, saving, output, errors);
             // the program ends soon, and gives all memory back at once
             forget(finished);
             end(ended, errors)
         }
-        Err(fault) => end(Err(fault), errors),
+        Err(fault) => {
+            discard(files, saving);
+            end(Err(fault), errors)
+        }
     }
 }

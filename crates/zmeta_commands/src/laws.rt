@@ -1,6 +1,12 @@
 //! Laws of the commands. Each is the contract of a function that does nothing.
+ghost use Rattle.zmeta_commands.specs.Others.{OtherFilesLaw};
 ghost use Rattle.zmeta_commands.specs.Replayed.{ReprintLaw};
+ghost use Rattle.zmeta_commands.specs.Serve.{ServedAt};
 
+use crate::doors::Doors;
+use std::net::Net;
+use std::time::Clock;
+use zmeta_devices::files::Folder;
 use zmeta_offline::laws::same_view_law;
 use zmeta_trace::laws::{known_law, one_head_law};
 use zmeta_world::laws::plan_law;
@@ -22,3 +28,9 @@ pub fn reprint_law()
     known_law();
     same_view_law();
 }
+
+/// Whatever a command does, and however it ends: at each path of another file than those of `--save` and `--trace`
+/// stands what stood there.
+pub fn other_files_law<S: Folder + Doors + Net + Clock>()
+    ensures { (system : S) → OtherFilesLaw S.Stream (ServedAt S S.Client S.IsAt (S.IsShut system)) }
+{}

@@ -2,6 +2,7 @@
 #![tactic(auto)]
 
 pub mod ask;
+mod begun;
 mod catalogue_files;
 pub mod choice;
 pub mod commands;

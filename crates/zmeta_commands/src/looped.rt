@@ -3,11 +3,13 @@
 ghost use Rattle.std.specs.Prelude.{IfOk, IfErr, IfSome};
 ghost use Rattle.std.specs.Option.{option_map};
 ghost use Rattle.zmeta_devices.specs.Devices.{outputs};
+ghost use Rattle.zmeta_devices.specs.Files.{folder};
 ghost use Rattle.zmeta_commands.specs.Finished.{HasNames};
 ghost use Rattle.zmeta_searches.specs.Searches.{search_of};
 ghost use Rattle.zmeta_commands.specs.Loop.{IsOfNetwork, IsOfLoop, IsListedLoop, LoopFileResult, AfterLoop};
 ghost use Rattle.zmeta_world.specs.InMemoryRuns.{CanBeRun};
 
+use crate::begun::begin_saving;
 use crate::finished::{Finished, ListTerms, Paths, conclude};
 use crate::run::read_in_memory;
 use crate::serve::fault_of;
@@ -15,7 +17,7 @@ use std::alloc::Global;
 use std::io::Write;
 use std::net::Net;
 use zmeta_args::{SearchOptions, View};
-use zmeta_devices::fault::{Fault, Status};
+use zmeta_devices::fault::{Fault, Status, end};
 use zmeta_devices::files::Folder;
 use zmeta_devices::output::Output;
 use zmeta_world::in_memory::InMemoryRun;
@@ -37,11 +39,16 @@ pub fn loop_named<'a, 'o: 'a, S: Folder + Net, W: Write, E: Write>(
 ) -> Status
     ensures { AfterLoop S.Stream (search_of search.now) view.entry paths.entry.world.now
         (option_map (λ path. path.now) paths.entry.saved) (S.octets system.old paths.entry.world.now)
-        (S.made system.old) (S.made system.new) (outputs W.contents E.contents output.old errors.old)
+        (folder S.octets S.are_one S.steps system.old) (folder S.octets S.are_one S.steps system.new)
+        (outputs W.contents E.contents output.old errors.old)
         (outputs W.contents E.contents output.new errors.new) result }
 {
+    let saving = match begin_saving(system, paths.world, paths.saved) {
+        Ok(saving) => saving,
+        Err(fault) => return end(Err(fault), errors),
+    };
     let asked = loop_file(alloc, system, paths.world, search, view);
-    conclude(alloc, system, asked, paths.saved, output, errors)
+    conclude(alloc, system, asked, saving, output, errors)
 }
 
 /// Runs the world of the file at a path.

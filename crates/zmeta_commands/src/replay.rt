@@ -4,11 +4,13 @@ ghost use Rattle.std.specs.Prelude.{◌≡◌, ◌||◌, not, length, Ok, Err, I
 ghost use Rattle.std.specs.Option.{option_map};
 ghost use Rattle.zmeta_args.specs.Texts.{texts_of};
 ghost use Rattle.zmeta_devices.specs.Devices.{output_device, outputs};
+ghost use Rattle.zmeta_devices.specs.Files.{folder};
 ghost use Rattle.zmeta_trace.specs.Heads.{head_texts};
 ghost use Rattle.zmeta_commands.specs.Ask.{CanBeAsked};
 ghost use Rattle.zmeta_commands.specs.Finished.{HasNames};
 ghost use Rattle.zmeta_commands.specs.Replay.{AreNames, HeadNetworkResult, ChosenResult, IsChoice, TraceFileResult, ReplayTraceResult, ReplayEntriesResult, ReplayFileResult, AreLimitsBy, IsOfReplay, IsOfTrace, AfterCut, cut_status, fault_of, at_world, AfterReplay};
 
+use crate::begun::begin_saving;
 use crate::choice::addresses_of;
 use crate::finished::{Finished, ListTerms, conclude};
 use crate::worlds::{octets_at, plan, searched_in};
@@ -17,7 +19,7 @@ use std::alloc::{AllocError, Global};
 use std::io::Write;
 use std::time::Duration;
 use zmeta_args::View;
-use zmeta_devices::fault::{Fault, Status};
+use zmeta_devices::fault::{Fault, Status, end};
 use zmeta_devices::files::Folder;
 use zmeta_devices::output::Output;
 use zmeta_trace::{Begun, Head, Replayed, read_head, replay};
@@ -59,7 +61,7 @@ pub struct ReplayPaths<'a> {
 /// or speaks of a connection that is not there. Line 2, which has the world file, is refused also if the head makes no
 /// search: the world file is refused, or has 2^32 octets or more; or what is put to its questions is refused; or no
 /// question has a name that was chosen.
-/// Nothing is printed then.
+/// Nothing is printed then, nor if no draft of the file at `saved` can be begun, or if that is the trace.
 pub fn replay_named<'a, 'o: 'a, F: Folder, W: Write, E: Write>(
     alloc: Global,
     files: &mut F,
@@ -69,18 +71,23 @@ pub fn replay_named<'a, 'o: 'a, F: Folder, W: Write, E: Write>(
     errors: &mut Output<'_, E>,
 ) -> Status
     ensures { AfterReplay view.entry paths.entry.trace.now (option_map (λ path. path.now) paths.entry.saved)
-        (F.octets files.old paths.entry.trace.now) (F.made files.old) (F.made files.new)
+        (F.octets files.old paths.entry.trace.now)
+        (folder F.octets F.are_one F.steps files.old) (folder F.octets F.are_one F.steps files.new)
         (outputs W.contents E.contents output.old errors.old)
         (outputs W.contents E.contents output.new errors.new) result }
 {
+    let saving = match begin_saving(files, paths.trace, paths.saved) {
+        Ok(saving) => saving,
+        Err(fault) => return end(Err(fault), errors),
+    };
     match replay_file(alloc, files, paths.trace, view) {
         Ok(replay) => {
             let Playback { finished, is_cut } = replay;
             tell_cut(is_cut, errors);
-            let status = conclude(alloc, files, Ok(finished), paths.saved, output, errors);
+            let status = conclude(alloc, files, Ok(finished), saving, output, errors);
             cut_status(is_cut, status)
         }
-        Err(fault) => conclude(alloc, files, Err(fault), paths.saved, output, errors),
+        Err(fault) => conclude(alloc, files, Err(fault), saving, output, errors),
     }
 }
 

@@ -8,18 +8,20 @@ ghost use Rattle.zoom.specs.Run.{IsRun};
 ghost use Rattle.zoom.specs.RunMade.{IsMovedRunInMemory};
 ghost use Rattle.zoom.specs.RunRounds.{IsCompleteRun};
 ghost use Rattle.zmeta_devices.specs.Devices.{outputs};
+ghost use Rattle.zmeta_devices.specs.Files.{folder};
 ghost use Rattle.zmeta_commands.specs.Finished.{HasNames, IsOfSearchedWorld};
 ghost use Rattle.zmeta_world.specs.InMemoryRuns.{CanBeRun};
 ghost use Rattle.zmeta_searches.specs.Searches.{search_of};
 ghost use Rattle.zmeta_commands.specs.Run.{ReadInMemoryResult, IsCompleteListedRun, RunFileResult, AfterRun};
 
+use crate::begun::begin_saving;
 use crate::finished::{Finished, ListTerms, NAME, Paths, conclude};
 use crate::worlds::world_at;
 use bytes::Bytes;
 use std::alloc::{AllocError, Global};
 use std::io::Write;
 use zmeta_args::{SearchOptions, View};
-use zmeta_devices::fault::{Fault, Status};
+use zmeta_devices::fault::{Fault, Status, end};
 use zmeta_devices::files::Folder;
 use zmeta_devices::output::Output;
 use zmeta_world::in_memory::InMemoryRun;
@@ -31,8 +33,9 @@ use ztarget::Target;
 /// replaces that of every question.
 ///
 /// Writes a line on `errors` for each connection that failed. If `paths` has a path `saved`, then makes one file
-/// there, the saved file of the facts, and returns `Done` or `Failed` only if it holds them all. Makes no other file.
-/// If nothing is printed or not all is saved, writes the reason on `errors`.
+/// there, the saved file of the facts, and returns `Done` or `Failed` only if it holds them all. Changes no other file.
+/// If nothing is printed or not all is saved, writes the reason on `errors`; nothing is done if no draft of that file
+/// can be begun, or if it is the world file.
 ///
 /// Returns `Refused` if a file or a stream failed, `errors` too. Else returns `Failed` if a search, an association or a
 /// connection failed, a target closed a connection first, or a question was not asked.
@@ -47,11 +50,16 @@ pub fn run_named<'a, 'o: 'a, F: Folder, W: Write, E: Write>(
 ) -> Status
     ensures { AfterRun (search_of search.now) view.entry paths.entry.world.now
         (option_map (λ path. path.now) paths.entry.saved) (F.octets files.old paths.entry.world.now)
-        (F.made files.old) (F.made files.new) (outputs W.contents E.contents output.old errors.old)
+        (folder F.octets F.are_one F.steps files.old) (folder F.octets F.are_one F.steps files.new)
+        (outputs W.contents E.contents output.old errors.old)
         (outputs W.contents E.contents output.new errors.new) result }
 {
+    let saving = match begin_saving(files, paths.world, paths.saved) {
+        Ok(saving) => saving,
+        Err(fault) => return end(Err(fault), errors),
+    };
     let asked = run_file(alloc, files, paths.world, search, view);
-    conclude(alloc, files, asked, paths.saved, output, errors)
+    conclude(alloc, files, asked, saving, output, errors)
 }
 
 /// Runs the world of the file at a path.

@@ -1,15 +1,18 @@
 //! The trace that `ask` writes: its beginning and its end.
 
-ghost use Rattle.std.specs.Prelude.{◌≡◌, ◌&&◌, not, IfOk, IfSome, OnOk, List};
+ghost use Rattle.std.specs.Prelude.{◌≡◌, ◌&&◌, not, IfOk, IfErr, OnOk, List};
 ghost use Rattle.std.specs.Option.{option_map};
 ghost use Rattle.zmeta_args.specs.Texts.{texts_of};
 ghost use Rattle.zmeta_devices.specs.Devices.{output_device};
 ghost use Rattle.zmeta_devices.specs.Faults.{refused_status};
+ghost use Rattle.zmeta_devices.specs.Files.{folder, WasTaken};
+ghost use Rattle.zmeta_devices.specs.Files.FileStep.{logged};
 ghost use Rattle.zmeta_trace.specs.Given.{given_entries};
 ghost use Rattle.zmeta_world.specs.Search.{search_texts};
 ghost use Rattle.zoom.specs.TraceEntry.{TraceEntry};
 ghost use Rattle.zoom.specs.Tracing.{IsTracedOn};
-ghost use Rattle.zmeta_commands.specs.Traced.{IsFresh, IsBegun, HasLines, HasLogged, CloseLogResult, CloseResult, AfterTrace, AfterClosing};
+ghost use Rattle.zmeta_commands.specs.Begun.{IsTraceFault, IsTraceBegun, IsOpenIf};
+ghost use Rattle.zmeta_commands.specs.Traced.{BeginLogResult, IsNew, IsBegun, HasLines, HasLogged, CloseLogResult, CloseResult, AfterTrace, AfterClosing};
 
 use bytes::Bytes;
 use std::alloc::{AllocError, Global};
@@ -36,35 +39,42 @@ fn put_all<T: Write>(
     Ok(())
 }
 
-/// Begins a log at a path. `None` if that fails.
-fn begin_log<F: Folder>(alloc: Global, files: &F, path: &str) -> Option<Tracer<F::Log>>
-    ensures { IsFresh F.Log.contents (F.logged files.now) result }
+/// Begins a log at a path. `Write` with the path if that fails.
+fn begin_log<'a, F: Folder>(
+    alloc: Global,
+    files: &mut F,
+    path: &'a str,
+) -> Result<Tracer<F::Log>, Fault<'a>>
+    ensures begun { BeginLogResult (folder F.octets F.are_one F.steps files.old)
+        (folder F.octets F.are_one F.steps files.new) path.entry.now result }
+    ensures new { IfOk result (IsNew F.Log.contents (F.steps files.new)) }
 {
     match files.log(path) {
-        Ok(log) => Some(Tracer::new(alloc, log)),
-        Err(_) => None,
+        Ok(log) => Ok(Tracer::new(alloc, log)),
+        Err(_) => Err(Fault::Write(path)),
     }
 }
 
 /// Begins the trace of a search, if there is a path for it, with what the search was given: the world file, what is put
-/// to every question, and the names that were chosen. `None` also if the file cannot be made.
-pub(crate) fn begin_trace<F: Folder>(
+/// to every question, and the names that were chosen. `Write` with the path if no log can be begun there.
+pub(crate) fn begin_trace<'a, F: Folder>(
     alloc: Global,
-    files: &F,
-    path: Option<&str>,
+    files: &mut F,
+    path: Option<&'a str>,
     world: Bytes,
     search: &Search<'_>,
     only: &[&str],
-) -> Result<Option<Tracer<F::Log>>, AllocError>
-    ensures { IfOk result (IsBegun F.Log.contents (F.logged files.now)
+) -> Result<Option<Tracer<F::Log>>, Fault<'a>>
+    ensures begun { IfOk result (IsBegun F.Log.contents (F.steps files.new)
         (given_entries world (search_texts search.now) (texts_of only.now))) }
+    ensures logged { IsTraceBegun (option_map (λ path. path.now) path.entry)
+        (folder F.octets F.are_one F.steps files.old) (folder F.octets F.are_one F.steps files.new) result }
+    ensures fault { IfErr result (IsTraceFault (option_map (λ path. path.now) path.entry)) }
 {
     let Some(path) = path else {
         return Ok(None);
     };
-    let Some(mut tracer) = begin_log(alloc, files, path) else {
-        return Ok(None);
-    };
+    let mut tracer = begin_log(alloc, files, path)?;
     let entries = given_entries(alloc, world, search, only)?;
     put_all(alloc, entries.as_slice(), &mut tracer)?;
     Ok(Some(tracer))
@@ -72,9 +82,9 @@ pub(crate) fn begin_trace<F: Folder>(
 
 /// Ends a log, and returns whether it holds what was written to it. If not, it holds a front of that, or is lost.
 fn close_log<F: Folder>(files: &mut F, path: &str, log: F::Log) -> bool
-    ensures closed { IfSome (F.Log.contents log) (λ octets. CloseLogResult (F.logged files.old) (F.logged files.new)
-        path.now octets result) }
-    ensures made { F.made files.new ≡ F.made files.old }
+    requires { WasTaken (F.steps files.old) (logged path.now) }
+    ensures { CloseLogResult (folder F.octets F.are_one F.steps files.old)
+        (folder F.octets F.are_one F.steps files.new) path.now (F.Log.contents log) result }
 {
     match files.close(path, log) {
         Ok(()) => true,
@@ -91,9 +101,10 @@ fn is_whole(is_closed: bool, has_failed: bool) -> bool
 
 /// Ends the log of a tracer, and returns whether it holds all lines. If not, it holds a front of them, if any.
 fn close_tracer<F: Folder>(files: &mut F, path: &str, tracer: Tracer<F::Log>) -> bool
-    ensures closed { (entries : List TraceEntry) → HasLines F.Log.contents (F.logged files.old) entries tracer
-        → CloseResult (F.logged files.old) (F.logged files.new) path.now entries result }
-    ensures made { F.made files.new ≡ F.made files.old }
+    requires { WasTaken (F.steps files.old) (logged path.now) }
+    ensures { (entries : List TraceEntry) → HasLines F.Log.contents (F.steps files.old) entries tracer
+        → CloseResult (folder F.octets F.are_one F.steps files.old)
+        (folder F.octets F.are_one F.steps files.new) path.now entries result }
 {
     let has_failed = tracer.has_failed();
     let is_closed = close_log(files, path, tracer.into_sink());
@@ -103,9 +114,10 @@ fn close_tracer<F: Folder>(files: &mut F, path: &str, tracer: Tracer<F::Log>) ->
 /// The same, if there is a tracer.
 #[tactic(auto, using(crate::proofs::Tracing::none_closed))]
 fn close_trace<F: Folder>(files: &mut F, path: &str, trace: Option<Tracer<F::Log>>) -> bool
-    ensures closed { (entries : List TraceEntry) → HasLogged F.Log.contents (F.logged files.old) entries trace
-        → CloseResult (F.logged files.old) (F.logged files.new) path.now entries result }
-    ensures made { F.made files.new ≡ F.made files.old }
+    requires { WasTaken (F.steps files.old) (logged path.now) }
+    ensures { (entries : List TraceEntry) → HasLogged F.Log.contents (F.steps files.old) entries trace
+        → CloseResult (folder F.octets F.are_one F.steps files.old)
+        (folder F.octets F.are_one F.steps files.new) path.now entries result }
 {
     match trace {
         Some(tracer) => close_tracer(files, path, tracer),
@@ -132,10 +144,11 @@ fn end_trace_at<F: Folder, E: Write>(
     status: Status,
     errors: &mut Output<'_, E>,
 ) -> Status
-    ensures traced { (entries : List TraceEntry) → HasLogged F.Log.contents (F.logged files.old) entries trace
-        → AfterTrace path.now entries (F.logged files.old) (F.logged files.new) (output_device E.contents errors.old)
+    requires { WasTaken (F.steps files.old) (logged path.now) }
+    ensures { (entries : List TraceEntry) → HasLogged F.Log.contents (F.steps files.old) entries trace
+        → AfterTrace path.now entries (folder F.octets F.are_one F.steps files.old)
+        (folder F.octets F.are_one F.steps files.new) (output_device E.contents errors.old)
         (output_device E.contents errors.new) status result }
-    ensures made { F.made files.new ≡ F.made files.old }
 {
     if close_trace(files, path, trace) {
         return status;
@@ -152,10 +165,11 @@ pub(crate) fn end_trace<F: Folder, E: Write>(
     status: Status,
     errors: &mut Output<'_, E>,
 ) -> Status
-    ensures traced { (entries : List TraceEntry) → HasLogged F.Log.contents (F.logged files.old) entries trace
-        → AfterClosing (option_map (λ path. path.now) path.entry) entries (F.logged files.old) (F.logged files.new)
+    requires { IsOpenIf (option_map (λ path. path.now) path) (F.steps files.old) }
+    ensures { (entries : List TraceEntry) → HasLogged F.Log.contents (F.steps files.old) entries trace
+        → AfterClosing (option_map (λ path. path.now) path.entry) entries
+        (folder F.octets F.are_one F.steps files.old) (folder F.octets F.are_one F.steps files.new)
         (output_device E.contents errors.old) (output_device E.contents errors.new) status result }
-    ensures made { F.made files.new ≡ F.made files.old }
 {
     match path {
         Some(path) => end_trace_at(files, path, trace, status, errors),

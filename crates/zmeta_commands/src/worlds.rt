@@ -10,18 +10,18 @@ ghost use Rattle.zmeta_commands.specs.Worlds.{WorldResult, SearchedResult, PlanR
 use crate::finished::NAME;
 use bytes::Bytes;
 use std::alloc::Global;
-use std::io::Read;
 use zmeta_args::SearchOptions;
 use zmeta_devices::fault::Fault;
 use zmeta_devices::files::{Folder, file_at};
 use zmeta_devices::input::Input;
+use zmeta_devices::readable::Readable;
 use zmeta_searches::copy_search;
 use zmeta_world::network::NetworkRun;
 use zmeta_world::search::Search;
 use zmeta_world::world::{World, read_world};
 
 /// Reads the world of a file.
-pub(crate) fn world_in<'a, R: Read>(
+pub(crate) fn world_in<'a, R: Readable>(
     alloc: Global,
     file: &mut Input<'a, R>,
 ) -> Result<World, Fault<'a>>
@@ -34,7 +34,7 @@ pub(crate) fn world_in<'a, R: Read>(
 }
 
 /// Reads the world of a file, and puts a search to every question.
-fn searched_world<'a, R: Read>(
+fn searched_world<'a, R: Readable>(
     alloc: Global,
     file: &mut Input<'a, R>,
     search: &Search<'_>,
@@ -75,7 +75,7 @@ pub(crate) fn octets_at<'a, F: Folder>(
 ) -> Result<Bytes, Fault<'a>>
     ensures octets { IfOk result (λ octets. IfSome (F.octets files.now path.entry.now) (λ known. octets ≡ known)) }
     ensures short { IfOk result (λ octets. length octets < 2 ^ 32) }
-    ensures fault { IfErr result (IsOfFile path.entry.now) }
+    ensures fault { IfErr result (IsOfFile (F.octets files.now path.entry.now) path.entry.now) }
 {
     let octets = file_at(files, path).read_all(alloc)?;
     match Bytes::from_vec(octets) {

@@ -1,9 +1,10 @@
 -- A text that is written to a stream in pieces.
-use Rattle.std.proofs.Common.{◌≡◌, ℕ, ◌-◌, ◌<◌, arith, inl, inr, List, [], ◌++◌, length, take, drop, sym, ap, ◌∙◌, subst, append_assoc, append-nil, take-append-drop, Option, Some, refl}
+use Rattle.std.proofs.Common.{◌≡◌, ℕ, ◌-◌, ◌<◌, arith, inl, inr, List, [], ◌++◌, length, take, drop, sym, ap, ◌∙◌, subst, append_assoc, append-nil, take-append-drop, Option, Some, None, refl}
 use Rattle.std.proofs.lemmas.List.{take_rest}
-use Rattle.std.specs.Io.KnownBytes.{Appends, Keeps}
+use Rattle.std.specs.Io.KnownBytes.{Appends, Keeps, Consumes}
 use Rattle.std.proofs.KnownBytes.{Appends-trans, Appends-kept, Appends-nil}
 use Rattle.zoom_devices.specs.Devices.{HasAppendedFront, HasFailed}
+use Rattle.zmeta_devices.specs.Input.{HasLostFront}
 use Rattle.zmeta_devices.specs.Pieces.{WritePieceResult}
 
 -- a front of the text was written, and the rest was not
@@ -36,6 +37,21 @@ none_put now text = ([], refl, Appends-nil now)
 
 pub nothing_put : (old new : Option (List ℕ)) → Keeps old new → Appends old new []
 nothing_put old new k = Appends-kept old old new [] (Appends-nil old) k
+
+-- ---- reads
+
+-- what a reader has is known, as long as what it had is
+pub unknown_before : (old new : Option (List ℕ)) (taken : List ℕ) → Consumes old new taken → new ≡ None → old ≡ None
+unknown_before None new taken h none = refl
+unknown_before (Some xs) None taken h none = absurd h
+unknown_before (Some xs) (Some ys) taken h none = absurd cc
+
+-- where it is not known any more, anything may be lost
+pub lost_before : (old now new : Option (List ℕ)) (taken : List ℕ) → Consumes old now taken → now ≡ None
+    → HasLostFront old new
+lost_before None now new taken h none = ([], tt)
+lost_before (Some xs) None new taken h none = absurd h
+lost_before (Some xs) (Some ys) new taken h none = absurd cc
 
 -- ---- failed calls
 

@@ -1,2 +1,3 @@
 pub mod DeviceSteps
+pub mod Filing
 mod Telling

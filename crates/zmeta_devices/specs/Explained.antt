@@ -12,7 +12,7 @@ use Rattle.zmeta_explain.specs.Mistakes.{records_words, mistake_words}
 use Rattle.zmeta_explain.specs.Stops.{host_of, port_of, detail_words}
 use Rattle.zmeta_explain.specs.declared.mistakes.Mistake.TheVariants as mistakes
 use Rattle.zmeta_devices.specs.declared.fault.Fault.{Fault}
-use Rattle.zmeta_devices.specs.declared.fault.Fault.TheVariants.{Read, Write, Hex, Frame, NotApdu, Malformed, Query}
+use Rattle.zmeta_devices.specs.declared.fault.Fault.TheVariants.{Read, Write, Overwrite, Hex, Frame, NotApdu, Malformed, Query}
 use Rattle.zmeta_devices.specs.declared.fault.Fault.TheVariants.{NotPrintable, NotKnowledge, NotCanonical, NamesDiffer}
 use Rattle.zmeta_devices.specs.declared.fault.Fault.TheVariants.{Line, Wanted, Syntax, NoQuestion, NoCatalogue, NotOid, Serve, Memory}
 
@@ -31,6 +31,7 @@ words_of_query kind at (Some text) = query_words text kind at
 abbrev pub fault_words : Fault → Option (List ℕ)
 fault_words (Read path) = Some (mistake_words (mistakes.Read path))
 fault_words (Write path) = Some (mistake_words (mistakes.Write path))
+fault_words (Overwrite path) = None
 fault_words Hex = Some (mistake_words mistakes.Hex)
 fault_words (Frame kind at) = Some (frame_words kind at)
 fault_words NotApdu = Some (mistake_words mistakes.NotApdu)

@@ -25,7 +25,7 @@ use Rattle.zmeta_world.specs.declared.world.WorldError.TheVariants as worlds
 use Rattle.zmeta_world.specs.declared.search.SearchError.{SearchError}
 use Rattle.zmeta_world.specs.declared.search.SearchError.TheVariants as searches
 use Rattle.zmeta_devices.specs.declared.fault.Fault.{Fault}
-use Rattle.zmeta_devices.specs.declared.fault.Fault.TheVariants.{Read, Write, Hex, Frame, NotApdu, Malformed, Query}
+use Rattle.zmeta_devices.specs.declared.fault.Fault.TheVariants.{Read, Write, Overwrite, Hex, Frame, NotApdu, Malformed, Query}
 use Rattle.zmeta_devices.specs.declared.fault.Fault.TheVariants.{NotPrintable, NotKnowledge, NotCanonical, NamesDiffer}
 use Rattle.zmeta_devices.specs.declared.fault.Fault.TheVariants.{Line, Wanted, Syntax, NoQuestion, NoCatalogue, NotOid, Serve, Memory}
 use Rattle.zmeta_devices.specs.declared.fault.Status.{Status}
@@ -43,6 +43,7 @@ code_of statuses.Memory = 4
 abbrev pub fault_text : Fault → List ℕ
 fault_text (Read path) = codes "cannot read " ++ path.now
 fault_text (Write path) = codes "cannot write " ++ path.now
+fault_text (Overwrite path) = codes "would overwrite " ++ path.now
 fault_text Hex = codes "hex refused"
 fault_text (Frame kind at) = fault_kind_name kind ++ codes " at " ++ decimal at
 fault_text NotApdu = codes "not an APDU"

@@ -58,6 +58,7 @@ fn mistake_of<'a>(fault: &Fault<'a>) -> Option<Mistake<'a>>
     let mistake = match fault {
         Fault::Read(path) => Mistake::Read(path.as_bytes()),
         Fault::Write(path) => Mistake::Write(path.as_bytes()),
+        Fault::Overwrite(_) => return None,
         Fault::Hex => Mistake::Hex,
         Fault::Frame { kind, at } => Mistake::Frame {
             kind: *kind,

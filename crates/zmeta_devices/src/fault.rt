@@ -67,6 +67,8 @@ pub enum Fault<'a> {
     Read(&'a str),
     /// The file, or the standard stream for `-`, could not be written.
     Write(&'a str),
+    /// The file would be written over another that the command reads or writes: both are one file.
+    Overwrite(&'a str),
     /// The text is not an even number of hexadecimal digits.
     Hex,
     /// The octets do not begin with a message. `at` counts octets from the first of the message.
@@ -128,6 +130,7 @@ impl fmt::Display for Fault<'_> {
         match self {
             Fault::Read(path) => write!(f, "cannot read {path}"),
             Fault::Write(path) => write!(f, "cannot write {path}"),
+            Fault::Overwrite(path) => write!(f, "would overwrite {path}"),
             Fault::Hex => write!(f, "hex refused"),
             Fault::Frame { kind, at } => {
                 let word = kind.name();

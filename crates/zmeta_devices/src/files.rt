@@ -1,17 +1,20 @@
 //! Files by their paths. A file opens at its first read, so a file that cannot be opened is a file that cannot be
-//! read. A file is made by one call, with all its octets, or from a draft. A log is written while things happen.
-ghost use Rattle.std.specs.Prelude.{◌≡◌, ℕ, List, Option, None, false, IfOk};
-ghost use Rattle.zmeta_devices.specs.Files.{opened_left, left_from, MadeFile, MakeResult, IsDraft, KeepResult};
+//! read. A file is made of a draft, all at once. A log is written while things happen.
+ghost use Rattle.std.specs.Prelude.{◌≡◌, ◌<◌, ◌≤◌, ℕ, List, length, take, Bool, Option, None, false, IfOk, IfSome, IfNone, OnErr};
+ghost use Rattle.std.specs.Io.KnownBytes.{Consumes, IsAtEnd};
+ghost use Rattle.zmeta_devices.specs.Files.{opened_left, left_from, FileStep, WasTaken, folder, IsDraft, DraftResult, KeepResult, LogResult, CloseResult};
+ghost use Rattle.zmeta_devices.specs.Files.FileStep.{drafted, logged};
 
+use crate::disk::{FileDraft, are_one_file, draft_at, keep_draft, log_at, remove_draft};
 use crate::input::Input;
-use std::alloc::{AllocError, Global};
+use crate::readable::Readable;
 use std::fs::File;
-use std::io::{ErrorKind, Read, Seek, SeekFrom, Write};
+use std::io::{Seek, SeekFrom, Write};
 use std::{fs, io};
 
 /// The files of a system, by their paths.
 pub trait Folder {
-    type File: Read + Drop;
+    type File: Readable + Drop;
 
     /// What is written before a file is made of it, for contents that are larger than memory.
     type Draft: Write + Drop;
@@ -19,74 +22,62 @@ pub trait Folder {
     /// What is written while things happen: the file is there meanwhile, and what was written to it.
     type Log: Write + Drop;
 
-    /// The octets of the file at a path, if they are known.
+    /// The octets of the file at a path, if they are known. Then the file is there, and can be read.
     ghost octets: { Self → List ℕ → Option (List ℕ) } = { λ _ _. None };
 
-    /// The files made so far, oldest first, if they are known.
-    ghost made: { Self → Option (List MadeFile) } = { λ _. None };
+    /// Whether two paths are those of one file, if that is known.
+    ghost are_one: { Self → List ℕ → List ℕ → Option Bool } = { λ _ _ _. None };
 
-    /// The logs ended so far, oldest first, if they are known. They are not among the files made.
-    ghost logged: { Self → Option (List MadeFile) } = { λ _. None };
+    /// The drafts and logs that were begun, kept and ended, oldest first, if they are known.
+    ghost steps: { Self → Option (List FileStep) } = { λ _. None };
 
     /// Opens the file at a path for reading, at its first octet.
     fn open(&self, path: &str) -> io::Result<Self::File>
-        ensures { IfOk result (λ file. Self.File.remaining file ≡ octets self.now path.now) };
+        ensures ok { IfOk result (λ file. Self.File.remaining file ≡ octets self.now path.now) }
+        ensures err { OnErr result (octets self.now path.now ≡ None) };
 
     /// Opens the file at a path for reading, behind this many of its octets; at its end if it has fewer. Fails if the
-    /// file can only be read from its first octet on, as a pipe.
+    /// file can only be read from its first octet on, as a pipe: what it has is not known then.
     fn open_at(&self, path: &str, offset: u64) -> io::Result<Self::File>
-        ensures { IfOk result (λ file. Self.File.remaining file ≡ left_from offset (octets self.now path.now)) };
+        ensures ok { IfOk result (λ file. Self.File.remaining file ≡ left_from offset (octets self.now path.now)) }
+        ensures err { OnErr result (octets self.now path.now ≡ None) };
 
     /// Whether the file at a path may be read more than once, and from any octet on.
     fn is_seekable(&self, path: &str) -> bool;
 
-    /// Makes a file at a path with these contents. A file that is there already is replaced. If that fails, no file is
-    /// made, or one that holds a front of the contents.
-    fn make(&mut self, path: &str, contents: &[u8]) -> io::Result<()>
-        ensures made { MakeResult (made self.old) (made self.new) path.now contents.now result }
-        ensures logged { logged self.new ≡ logged self.old };
+    /// Whether two paths are those of one file: what is written at one would be read at the other.
+    fn is_one_file(&self, one: &str, other: &str) -> bool
+        ensures { IfSome (are_one self.now one.now other.now) (λ known. result ≡ known) };
 
-    /// Begins a draft of a file at a path. Until it is kept, no file is made.
-    fn draft(&self, path: &str) -> io::Result<Self::Draft>
-        ensures { IfOk result (λ draft. IsDraft (made self.now) (Self.Draft.contents draft)) };
+    /// Begins a draft of a file at a path. Until it is kept, each file is as it was.
+    fn draft(&mut self, path: &str) -> io::Result<Self::Draft>
+        ensures empty { IfOk result (λ draft. IsDraft (steps self.new) (Self.Draft.contents draft)) }
+        ensures begun { DraftResult (folder octets are_one steps self.old) (folder octets are_one steps self.new)
+            path.now result };
 
-    /// Makes a file at a path, with what was written to the draft. A file that is there already is replaced. If that
-    /// fails, no file is made, or one that holds a front of it.
+    /// Makes a file at a path, of the draft that was begun there. A file that is there already is replaced. If that
+    /// fails, each file is as it was.
     fn keep(&mut self, path: &str, draft: Self::Draft) -> io::Result<()>
-        ensures made { KeepResult (made self.old) (made self.new) path.now (Self.Draft.contents draft) result }
-        ensures logged { logged self.new ≡ logged self.old };
+        requires { WasTaken (steps self.old) (drafted path.now) }
+        ensures { KeepResult (folder octets are_one steps self.old) (folder octets are_one steps self.new) path.now
+            (Self.Draft.contents draft) result };
 
-    /// Gives a draft up. No file is made.
+    /// Gives a draft up. Each file is as it was.
     fn discard(&self, draft: Self::Draft);
 
     /// Begins a log: a file at a path, which is empty, and takes what is written to the log at once. A file that is
     /// there already is emptied. If the program is broken off, a front of what was written stays.
-    fn log(&self, path: &str) -> io::Result<Self::Log>
-        ensures { IfOk result (λ log. IsDraft (logged self.now) (Self.Log.contents log)) };
+    fn log(&mut self, path: &str) -> io::Result<Self::Log>
+        ensures empty { IfOk result (λ log. IsDraft (steps self.new) (Self.Log.contents log)) }
+        ensures begun { LogResult (folder octets are_one steps self.old) (folder octets are_one steps self.new)
+            path.now result };
 
     /// Ends the log that was begun at a path: the file there holds all that was written to it. If that fails, it holds
     /// a front of that, or is lost.
     fn close(&mut self, path: &str, log: Self::Log) -> io::Result<()>
-        ensures logged { KeepResult (logged self.old) (logged self.new) path.now (Self.Log.contents log) result }
-        ensures made { made self.new ≡ made self.old };
-}
-
-/// A draft on the system's disk.
-#[derive(Drop)]
-pub struct FileDraft {
-    file: File,
-    /// The path of the file that is written in place of the one to be made. `None` if what is at the path is written.
-    beside: Option<String>,
-}
-
-impl Write for FileDraft {
-    fn write(&mut self, buf: &[u8]) -> io::Result<usize> {
-        self.file.write(buf)
-    }
-
-    fn flush(&mut self) -> io::Result<()> {
-        self.file.flush()
-    }
+        requires { WasTaken (steps self.old) (logged path.now) }
+        ensures { CloseResult (folder octets are_one steps self.old) (folder octets are_one steps self.new) path.now
+            (Self.Log.contents log) result };
 }
 
 impl Folder for HostRuntime {
@@ -114,127 +105,39 @@ impl Folder for HostRuntime {
         }
     }
 
-    /// A regular file is replaced once the new one is whole, and keeps its permissions. What is no regular file, as a
-    /// device, a pipe or a link, is written as it is.
-    fn make(&mut self, path: &str, contents: &[u8]) -> io::Result<()> {
-        match is_replaceable(self, path) {
-            true => replace(self, path, contents),
-            false => write_over(self, path, contents),
-        }
+    /// The device and the inode tell, or for a file that is to be made those of its folder, and its name. What is no
+    /// regular file is no one's: what is written to it is not what is read from it.
+    fn is_one_file(&self, one: &str, other: &str) -> bool {
+        are_one_file(self, one, other)
     }
 
-    /// The draft is a file beside the path. What is no regular file, as a device, a pipe or a link, is written in
+    /// The draft is a file beside the one to be made. What is no regular file, as a device or a pipe, is written in
     /// place.
-    fn draft(&self, path: &str) -> io::Result<FileDraft> {
-        match is_replaceable(self, path) {
-            true => draft_beside(self, path),
-            false => Ok(FileDraft {
-                file: File::create(self, path)?,
-                beside: None,
-            }),
-        }
+    #[tactic(auto, using(crate::proofs::Filing::draft_unknown))]
+    fn draft(&mut self, path: &str) -> io::Result<FileDraft> {
+        draft_at(self, path)
     }
 
     /// A regular file is replaced once the new one is whole, and keeps its permissions.
-    fn keep(&mut self, path: &str, mut draft: FileDraft) -> io::Result<()> {
-        let Some(beside) = &draft.beside else {
-            return draft.file.flush();
-        };
-        let moved = finish(self, path, &mut draft.file).and_then(|_| fs::rename(
-            self,
-            beside.as_str(),
-            path,
-        ));
-        if moved.is_err() {
-            let _ = fs::remove_file(self, beside.as_str());
-        }
-        moved
+    #[tactic(auto, using(crate::proofs::Filing::keep_unknown))]
+    fn keep(&mut self, _path: &str, draft: FileDraft) -> io::Result<()> {
+        keep_draft(self, draft)
     }
 
     fn discard(&self, draft: FileDraft) {
-        if let Some(beside) = &draft.beside {
-            let _ = fs::remove_file(self, beside.as_str());
-        }
+        remove_draft(self, draft);
     }
 
-    fn log(&self, path: &str) -> io::Result<File> {
-        File::create(self, path)
+    /// A pipe that nobody reads is opened all the same. Each write to it fails.
+    #[tactic(auto, using(crate::proofs::Filing::log_unknown))]
+    fn log(&mut self, path: &str) -> io::Result<File> {
+        log_at(self, path)
     }
 
+    #[tactic(auto, using(crate::proofs::Filing::close_unknown))]
     fn close(&mut self, _path: &str, mut log: File) -> io::Result<()> {
         log.flush()
     }
-}
-
-/// Begins a draft in a new file beside the path.
-fn draft_beside(files: &HostRuntime, path: &str) -> io::Result<FileDraft> {
-    let Ok(beside) = path_beside(files.alloc(), path) else {
-        return Err(io::Error::from(ErrorKind::OutOfMemory));
-    };
-    // A run that was broken off may have left one.
-    let _ = fs::remove_file(files, beside.as_str());
-    let file = File::create_new(files, beside.as_str())?;
-    Ok(FileDraft {
-        file,
-        beside: Some(beside),
-    })
-}
-
-/// Gives a new file the permissions of an older one at the path, and brings it to the disk.
-fn finish(files: &HostRuntime, path: &str, file: &mut File) -> io::Result<()> {
-    if let Ok(older) = fs::metadata(files, path) {
-        file.set_permissions(older.permissions())?;
-    }
-    file.sync_all()
-}
-
-/// Whether a regular file is at the path, or nothing.
-fn is_replaceable(files: &HostRuntime, path: &str) -> bool {
-    match fs::symlink_metadata(files, path) {
-        Ok(found) => found.is_file(),
-        Err(error) => error.kind() == ErrorKind::NotFound,
-    }
-}
-
-/// Writes the contents into what is at the path, or makes a file there.
-fn write_over(files: &HostRuntime, path: &str, contents: &[u8]) -> io::Result<()> {
-    let mut file = File::create(files, path)?;
-    file.write_all(contents)
-}
-
-/// Makes a file beside the path, and then gives it the path. Where none can be made beside it, writes at the path.
-fn replace(files: &HostRuntime, path: &str, contents: &[u8]) -> io::Result<()> {
-    let Ok(beside) = path_beside(files.alloc(), path) else {
-        return write_over(files, path, contents);
-    };
-    // A run that was broken off may have left one.
-    let _ = fs::remove_file(files, beside.as_str());
-    let Ok(file) = File::create_new(files, beside.as_str()) else {
-        return write_over(files, path, contents);
-    };
-    let moved = fill(files, path, file, contents).and_then(|_| fs::rename(
-        files,
-        beside.as_str(),
-        path,
-    ));
-    if moved.is_err() {
-        let _ = fs::remove_file(files, beside.as_str());
-    }
-    moved
-}
-
-/// Returns the path of the file that is made beside a path.
-fn path_beside(alloc: Global, path: &str) -> Result<String, AllocError> {
-    let mut beside = String::new(alloc);
-    beside.push_str(path)?;
-    beside.push_str(".part")?;
-    Ok(beside)
-}
-
-/// Writes the contents of a new file, which gets the permissions of an older one at the path.
-fn fill(files: &HostRuntime, path: &str, mut file: File, contents: &[u8]) -> io::Result<()> {
-    file.write_all(contents)?;
-    finish(files, path, &mut file)
 }
 
 /// A file that opens at its first read.
@@ -254,17 +157,45 @@ impl<F: Folder> Drop for NamedFile<'_, '_, F> {
     }
 }
 
-impl<F: Folder> Read for NamedFile<'_, '_, F> {
+impl<F: Folder> Readable for NamedFile<'_, '_, F> {
     ghost remaining = { λ s. opened_left F.File.remaining (F.octets s.files.now s.path.now) s.file };
 
-    fn read(&mut self, buf: &mut [u8]) -> io::Result<usize> {
+    fn fetch(&mut self, piece: &mut [u8]) -> Option<usize> {
         if self.file.is_none() {
-            self.file = Some(self.files.open(self.path)?);
+            return self.open_and_fetch(piece);
         }
         match &mut self.file {
-            Some(file) => file.read(buf),
-            None => Err(io::Error::from(ErrorKind::NotFound)),
+            Some(file) => file.fetch(piece),
+            None => None,
         }
+    }
+
+    fn goes_on(&self, reads: u64) -> bool {
+        match &self.file {
+            Some(file) => file.goes_on(reads),
+            None => true,
+        }
+    }
+}
+
+impl<F: Folder> NamedFile<'_, '_, F> {
+    /// Opens the file, and reads its first octets into the front of a piece. `None` if that fails.
+    fn open_and_fetch(&mut self, piece: &mut [u8]) -> Option<usize>
+        requires { self.old.file ≡ None }
+        ensures bound { IfSome result (λ count. count ≤ length piece.new) }
+        ensures taken { IfSome result (λ count. Consumes (F.octets self.old.files.now self.old.path.now)
+            (opened_left F.File.remaining (F.octets self.new.files.now self.new.path.now) self.new.file)
+            (take count piece.new)) }
+        ensures end { IfSome result (λ count. count ≡ 0 → 0 < length piece.old → IsAtEnd
+            (opened_left F.File.remaining (F.octets self.new.files.now self.new.path.now) self.new.file)) }
+        ensures failed { IfNone result (F.octets self.old.files.now self.old.path.now ≡ None) }
+    {
+        let Ok(mut file) = self.files.open(self.path) else {
+            return None;
+        };
+        let count = file.fetch(piece);
+        self.file = Some(file);
+        count
     }
 }
 

@@ -1,14 +1,14 @@
 //! Streams that are read to their end.
-ghost use Rattle.std.specs.Prelude.{◌≡◌, ◌<◌, ◌≤◌, ◌*◌, ◌⊎◌, IfOk, IfSome, IfErr, OnOk, OnErr, Err, length, take, vec_len, true, false};
-ghost use Rattle.std.specs.Io.KnownBytes.{Keeps, Consumes, IsAtEnd};
+ghost use Rattle.std.specs.Prelude.{◌≡◌, ◌<◌, ◌≤◌, ◌*◌, ◌⊎◌, None, IfOk, IfSome, IfErr, OnOk, OnErr, Err, length, take, vec_len, true, false};
+ghost use Rattle.std.specs.Io.KnownBytes.{Consumes, IsAtEnd};
 ghost use Rattle.zmeta_devices.specs.Input.{HasLostFront, ReadPieceResult};
 
 use crate::fault::Fault;
+use crate::readable::Readable;
 use std::alloc::Global;
-use std::io::Read;
 
-/// The most reads of one stream.
-const READS: u32 = 1_000_000;
+/// There is no memory for so many octets and one more piece. A device has fewer before the last of its 1,000,000 reads.
+const TOO_MANY: usize = 4_095_995_905;
 
 /// The most octets of one read.
 const PIECE: usize = 4_096;
@@ -24,7 +24,7 @@ pub struct Input<'a, R> {
     pub has_failed: bool,
 }
 
-impl<'a, R: Read> Input<'a, R> {
+impl<'a, R: Readable> Input<'a, R> {
     /// Returns the stream of a reader. No read of it has failed.
     pub fn new(path: &'a str, reader: R) -> Input<'a, R>
         ensures path { result.path ≡ path.entry }
@@ -38,11 +38,10 @@ impl<'a, R: Read> Input<'a, R> {
         }
     }
 
-    /// Reads all that is left of the stream, in at most 1,000,000 reads of at most 4,096 octets. The last of them
-    /// finds the end.
+    /// Reads all that is left of the stream, in reads of at most 4,096 octets. The last of them finds the end.
     ///
-    /// `Read` with the stream's path if a read fails, or if that many reads find no end. The octets read are lost,
-    /// and `has_failed` is set. `Memory` if no memory is found; `has_failed` is unchanged.
+    /// `Read` with the stream's path if a read fails, as the one behind 1,000,000 of a device does. The octets read are
+    /// lost, and `has_failed` is set. `Memory` if no memory is found; `has_failed` is unchanged.
     ///
     /// Whatever the result, octets are only taken from the front of the stream.
     pub fn read_all(&mut self, alloc: Global) -> Result<Vec<u8>, Fault<'a>>
@@ -53,8 +52,8 @@ impl<'a, R: Read> Input<'a, R> {
         ensures no_failure { OnOk result (self.new.has_failed ≡ self.old.has_failed) }
         // the path, and the faults
         ensures path { self.new.path ≡ self.old.path }
-        ensures err { IfErr result (λ f. ((f ≡ Fault.Read self.old.path) × (self.new.has_failed ≡ true))
-            ⊎ (f ≡ Fault.Memory)) }
+        ensures err { IfErr result (λ f. ((f ≡ Fault.Read self.old.path) × (self.new.has_failed ≡ true)
+            × (R.remaining self.old.reader ≡ None)) ⊎ (f ≡ Fault.Memory)) }
         // in each case
         ensures rest { HasLostFront (R.remaining self.old.reader) (R.remaining self.new.reader) }
         // if no memory is found
@@ -67,19 +66,18 @@ impl<'a, R: Read> Input<'a, R> {
         answer
     }
 
-    /// Reads octets of the stream until there are this many or more, or it ends, in at most 1,000,000 reads of at most
-    /// 4,096 octets.
+    /// Reads octets of the stream until there are this many or more, or it ends, in reads of at most 4,096 octets.
     ///
-    /// `Read` with the stream's path if a read fails, or if that many reads find neither. The octets read are lost, and
-    /// `has_failed` is set. `Memory` if no memory is found; `has_failed` is unchanged.
+    /// `Read` with the stream's path if a read fails, as the one behind 1,000,000 of a device does. The octets read are
+    /// lost, and `has_failed` is set. `Memory` if no memory is found; `has_failed` is unchanged.
     pub fn read_front(&mut self, alloc: Global, least: usize) -> Result<Vec<u8>, Fault<'a>>
         ensures taken { IfOk result (λ v. Consumes (R.remaining self.old.reader) (R.remaining self.new.reader)
             v.items) }
         ensures end { IfOk result (λ v. vec_len v < least → IsAtEnd (R.remaining self.new.reader)) }
         ensures no_failure { OnOk result (self.new.has_failed ≡ self.old.has_failed) }
         ensures path { self.new.path ≡ self.old.path }
-        ensures err { IfErr result (λ f. ((f ≡ Fault.Read self.old.path) × (self.new.has_failed ≡ true))
-            ⊎ (f ≡ Fault.Memory)) }
+        ensures err { IfErr result (λ f. ((f ≡ Fault.Read self.old.path) × (self.new.has_failed ≡ true)
+            × (R.remaining self.old.reader ≡ None)) ⊎ (f ≡ Fault.Memory)) }
     {
         let answer = read_until(alloc, &mut self.reader, self.path, least);
         if matches!(answer, Err(Fault::Read(_))) {
@@ -91,20 +89,20 @@ impl<'a, R: Read> Input<'a, R> {
     /// Reads octets into the front of the piece, and returns how many came: 0 only at the end of the stream, or if the
     /// piece has no room.
     ///
-    /// `Read` with the stream's path if the read fails. Nothing was taken then, and `has_failed` is set.
+    /// `Read` with the stream's path if the read fails. Then `has_failed` is set.
     pub fn read_some(&mut self, piece: &mut [u8]) -> Result<usize, Fault<'a>>
         ensures bound { IfOk result (λ count. count ≤ length piece.new) }
         ensures taken { IfOk result (λ count. Consumes (R.remaining self.old.reader) (R.remaining self.new.reader)
             (take count piece.new)) }
         ensures end { IfOk result (λ count. count ≡ 0 → 0 < length piece.old → IsAtEnd (R.remaining self.new.reader)) }
         ensures err { IfErr result (λ f. (f ≡ Fault.Read self.old.path) × (self.new.has_failed ≡ true)) }
-        ensures kept { OnErr result (Keeps (R.remaining self.old.reader) (R.remaining self.new.reader)) }
+        ensures unknown { OnErr result (R.remaining self.old.reader ≡ None) }
         ensures path { self.new.path ≡ self.old.path }
         ensures room { length piece.new ≡ length piece.old }
     {
-        match self.reader.read(piece) {
-            Ok(count) => Ok(count),
-            Err(_) => {
+        match self.reader.fetch(piece) {
+            Some(count) => Ok(count),
+            None => {
                 self.has_failed = true;
                 Err(Fault::Read(self.path))
             }
@@ -112,8 +110,9 @@ impl<'a, R: Read> Input<'a, R> {
     }
 }
 
-/// Reads all that is left of a reader. `Read(path)` if a read fails, or if `READS` reads find no end.
-fn read_pieces<'a, R: Read>(
+/// Reads all that is left of a reader. `Read(path)` if a read fails. `Memory` if no memory is found.
+#[tactic(auto, using(crate::proofs::DeviceSteps::unknown_before, crate::proofs::DeviceSteps::lost_before))]
+fn read_pieces<'a, R: Readable>(
     alloc: Global,
     reader: &mut R,
     path: &'a str,
@@ -122,11 +121,18 @@ fn read_pieces<'a, R: Read>(
     ensures end { OnOk result (IsAtEnd (R.remaining reader.new)) }
     ensures short { IfOk result (λ v. vec_len v ≤ 4096 * 1000000) }
     ensures rest { HasLostFront (R.remaining reader.old) (R.remaining reader.new) }
-    ensures err { IfErr result (λ f. (f ≡ Fault.Read path.entry) ⊎ (f ≡ Fault.Memory)) }
+    ensures err { IfErr result (λ f. ((f ≡ Fault.Read path.entry) × (R.remaining reader.old ≡ None))
+        ⊎ (f ≡ Fault.Memory)) }
 {
     let mut octets = Vec::new(alloc);
     let mut piece = [0u8; PIECE];
-    for _ in 0..READS {
+    for reads in 0..u64::MAX {
+        if !reader.goes_on(reads) {
+            return Err(Fault::Read(path));
+        }
+        if octets.len() >= TOO_MANY {
+            return Err(Fault::Memory);
+        }
         let Some(count) = read_piece(reader, &mut piece) else {
             return Err(Fault::Read(path));
         };
@@ -135,12 +141,12 @@ fn read_pieces<'a, R: Read>(
         }
         octets.extend_from_slice(&piece[..count])?;
     }
-    Err(Fault::Read(path))
+    Err(Fault::Memory)
 }
 
-/// Reads octets of a reader until there are this many or more, or it ends. `Read(path)` if a read fails, or if `READS`
-/// reads find neither.
-fn read_until<'a, R: Read>(
+/// Reads octets of a reader until there are this many or more, or it ends. `Read(path)` if a read fails.
+#[tactic(auto, using(crate::proofs::DeviceSteps::unknown_before))]
+fn read_until<'a, R: Readable>(
     alloc: Global,
     reader: &mut R,
     path: &'a str,
@@ -148,13 +154,17 @@ fn read_until<'a, R: Read>(
 ) -> Result<Vec<u8>, Fault<'a>>
     ensures taken { IfOk result (λ v. Consumes (R.remaining reader.old) (R.remaining reader.new) v.items) }
     ensures end { IfOk result (λ v. vec_len v < least → IsAtEnd (R.remaining reader.new)) }
-    ensures err { IfErr result (λ f. (f ≡ Fault.Read path.entry) ⊎ (f ≡ Fault.Memory)) }
+    ensures err { IfErr result (λ f. ((f ≡ Fault.Read path.entry) × (R.remaining reader.old ≡ None))
+        ⊎ (f ≡ Fault.Memory)) }
 {
     let mut octets = Vec::new(alloc);
     let mut part = [0u8; PIECE];
-    for _ in 0..READS {
+    for reads in 0..u64::MAX {
         if octets.len() >= least {
             return Ok(octets);
+        }
+        if !reader.goes_on(reads) {
+            return Err(Fault::Read(path));
         }
         match read_piece(reader, &mut part) {
             None => return Err(Fault::Read(path)),
@@ -162,17 +172,14 @@ fn read_until<'a, R: Read>(
             Some(size) => octets.extend_from_slice(&part[..size])?,
         }
     }
-    Err(Fault::Read(path))
+    Err(Fault::Memory)
 }
 
 /// Reads a piece of at most 4,096 octets, and returns how many came: 0 only at the end, `None` if the read failed.
-fn read_piece<R: Read>(reader: &mut R, piece: &mut [u8]) -> Option<usize>
+fn read_piece<R: Readable>(reader: &mut R, piece: &mut [u8]) -> Option<usize>
     requires { length piece.old ≡ 4096 }
     ensures bound { IfSome result (λ count. count ≤ 4096) }
     ensures bytes { ReadPieceResult (R.remaining reader.old) (R.remaining reader.new) piece.new result }
 {
-    match reader.read(piece) {
-        Ok(count) => Some(count),
-        Err(_) => None,
-    }
+    reader.fetch(piece)
 }

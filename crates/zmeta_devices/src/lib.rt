@@ -2,8 +2,10 @@
 #![tactic(auto)]
 
 mod counted;
+mod disk;
 pub mod explained;
 pub mod fault;
 pub mod files;
 pub mod input;
 pub mod output;
+pub mod readable;

@@ -1,5 +1,5 @@
 -- The facts of saved files are printed in several passes.
-use Rattle.std.proofs.Common.{◌≡◌, ◌∙◌, ◌⊎◌, ◌↔◌, inl, inr, ⊎_elim, refl, sym, ap, subst, ℕ, zero, suc, Bool, true, false, List, [], ◌∷◌, ◌++◌, Option, Some, IfSome, Result, Ok, Err}
+use Rattle.std.proofs.Common.{◌≡◌, ◌∙◌, ◌⊎◌, ◌↔◌, inl, inr, ⊎_elim, refl, sym, ap, subst, ℕ, zero, suc, Bool, true, false, List, [], ◌∷◌, ◌++◌, Option, Some, None, IfSome, Result, Ok, Err}
 use Rattle.std.specs.Borrow.{Bor}
 use Rattle.std.specs.Prelude.{Contains, Vec, slice_get}
 use Rattle.zknow.specs.declared.fact.Fact.{Fact}
@@ -10,6 +10,7 @@ use Rattle.zknow_forms.specs.declared.form.Form.{Form}
 use Rattle.zknow_forms.specs.declared.tally.Tally.{Tally}
 use Rattle.zknow_runs.specs.RowLaws.{AreRowsFrontOf}
 use Rattle.zknow_runs.specs.Rows.{Sources}
+use Rattle.zknow_runs.specs.declared.rows.Chosen.{Chosen}
 use Rattle.zknow_runs.specs.declared.rows.Taking.{Taking}
 use Rattle.zknow_runs.specs.declared.run.Run.{Run}
 use Rattle.zknow_titles.specs.Parts.{AllTitlePartLaws}
@@ -19,12 +20,13 @@ use Rattle.zmeta_devices.specs.declared.fault.Fault.{Fault}
 use Rattle.zmeta_devices.specs.declared.fault.Fault.TheVariants.{Read, Write, NoCatalogue, Memory}
 use Rattle.zmeta_devices.specs.declared.fault.Status.{Status}
 use Rattle.zmeta_offline.specs.Join.{AreJoined, IsRefusedAmong, IsKnownStatus, IsListOf, PutListResult}
-use Rattle.zmeta_offline.specs.Joined.{parted, IsFormOf, IsMeasuredForm, IsMismeasured, IsListOrSo, IsListBrokenOff, StreamedJoinResult}
+use Rattle.zmeta_offline.specs.Joined.{parted, IsFormOf, IsMeasuredForm, IsMismeasured, IsOtherView, IsListOrSo, IsListBrokenOff, StreamedJoinResult}
 use Rattle.zmeta_offline.specs.Marked.{AreMarked, ScanFilesResult}
-use Rattle.zmeta_offline.specs.Rows.{AreGivenOf, IsReadFaultAmong, IsWritten, IsCutOff, IsStopped, IsOfRuns, WriteRowsResult}
+use Rattle.zmeta_offline.specs.Rows.{AreGivenOf, IsMissedRead, IsWritten, IsCutOff, IsStopped, IsOfRuns, WriteRowsResult}
 use Rattle.zmeta_offline.specs.Streamed.{IsStatusOf}
 use Rattle.zmeta_offline.specs.Views.{printed}
 use Rattle.zmeta_offline.specs.declared.joined.PartedView.{PartedView}
+use Rattle.zmeta_offline.specs.declared.joined.PartedView.TheVariants as parts
 use Rattle.zmeta_offline.specs.declared.scanned.Marked.{Marked}
 use Rattle.zmeta_offline.specs.declared.scanned.Noting.TheVariants.{Others}
 use Rattle.zmeta_offline.proofs.FormJoined.{DoesFit, IsInColumns, shape_printed, told_fit, all_fit, shape_fits}
@@ -61,22 +63,28 @@ module _ (view : View) (octets : List ℕ → Option (List ℕ)) (path : List �
   abbrev result_of : Device → Result Status Fault → Type 0
   result_of new result = StreamedJoinResult view octets (path ∷ others) old new result
 
-  -- a file could not be read again
-  refused : (failed : Bor (List ℕ)) → Contains (path ∷ others) failed.now
-      → IsRefusedAmong octets (path ∷ others) (Read failed)
-  refused failed h =
-      refused_among octets m.names (path ∷ others) marked.theirs marked.saved failed.now h (Read failed) refl
+  module _ (paths : List (List ℕ)) (runs : List Run) (c : Chosen) (same_paths : paths ≡ path ∷ others)
+      (same_runs : runs ≡ m.runs.items) (same_chosen : c ≡ m.chosen) where
+    -- a file could not be read again
+    refused : (failed : Bor (List ℕ)) → IsMissedRead octets paths runs c (Read failed)
+        → IsRefusedAmong octets (path ∷ others) (Read failed)
+    refused failed h =
+        refused_among octets m.names (path ∷ others) marked.theirs marked.saved failed.now
+        (subst (λ (z : List (List ℕ)). Contains z failed.now) same_paths h.0) (Read failed) (
+          refl,
+          of_marked_runs octets path others [] Others m marked paths runs c same_paths same_runs same_chosen
+              (λ s. octets failed.now ≡ None) h.1,
+        )
 
-  -- the records were not read from which the form is made
-  no_form : (f : Fault) → IsReadFaultAmong (path ∷ others) f → result_of old (Err f)
-  no_form (Read failed) h = inl (refused failed h, kept old)
-  no_form Memory h = inl (kept old)
-  no_form f h = absurd h
+    -- the records were not read from which the form is made
+    no_form : (f : Fault) → IsMissedRead octets paths runs c f → result_of old (Err f)
+    no_form (Read failed) h = inl (refused failed h, kept old)
+    no_form Memory h = inl (kept old)
+    no_form f h = absurd h
 
-  pub form_refused : (paths : List (List ℕ)) → paths ≡ path ∷ others → (g f : Fault) (r : Result Status Fault)
-      → r ≡ Err f → f ≡ g → IsReadFaultAmong paths g → result_of old r
-  form_refused paths same g f r is of h =
-      rw (is, of) (no_form g (subst (λ (z : List (List ℕ)). IsReadFaultAmong z g) same h))
+    pub form_refused : (g f : Fault) (r : Result Status Fault) → r ≡ Err f → f ≡ g
+        → IsMissedRead octets paths runs c g → result_of old r
+    form_refused g f r is of h = rw (is, of) (no_form g h)
 
   -- what is taken, in the form of the view
   pub record IsReady (shape : PartedView) (t : Taking) : Type 0 where
@@ -219,7 +227,7 @@ module _ (view : View) (octets : List ℕ → Option (List ℕ)) (path : List �
       not_written : (A : Type 0) (new : Device) (f : Fault)
           → WriteRowsResult octets paths runs {A = A} t old new (Err f) → result_of new (Err f)
       not_written A new (Read failed) h = inr (
-        refused failed (subst (λ (z : List (List ℕ)). Contains z failed.now) same_paths h.0),
+        inl (refused paths runs t.chosen.now same_paths same_runs is_ready.chosen failed h.0),
         cut_at new h.1,
       )
       not_written A new (Write failed) h =
@@ -247,10 +255,23 @@ module _ (view : View) (octets : List ℕ → Option (List ℕ)) (path : List �
         abbrev known : List Fact
         known = (given_of is.is.given are).facts
 
+        -- then it is a view for readers
+        other_view : (s : PartedView) (z : Form) → IsFormOf m.names s z → parted view ≡ Some s
+            → (IsAsTold z told → ⊥) → IsOtherView view octets (path ∷ others)
+        other_view (parts.List mode) z of shape_is other =
+            absurd (other (subst (λ (y : Form). IsAsTold y told) (sym of) tt))
+        other_view parts.Json z of shape_is other =
+            absurd (other (subst (λ (y : Form). IsAsTold y told) (sym of) tt))
+        other_view (parts.Readers extent) z of shape_is other = (extent, shape_is)
+
         -- what was told is not so
-        not_as_told : (first : Bor (List ℕ)) → first.now ≡ path → result_of late (Err (Read first))
-        not_as_told first same = inr (
-          refused first (subst (λ z. Contains (path ∷ others) z) (sym same) (in_head path others)),
+        not_as_told : (first : Bor (List ℕ)) → first.now ≡ path → (IsAsTold form told → ⊥)
+            → result_of late (Err (Read first))
+        not_as_told first same other = inr (
+          inr (
+            subst (λ z. Contains (path ∷ others) z) (sym same) (in_head path others),
+            other_view shape form is_ready.form is_ready.shape_is other,
+          ),
           broken_at late is.text
               (record { given = is.is.given; rest = last.items; are = are; cut = sym is.is.octets }) is.gained,
         )
@@ -297,9 +318,10 @@ module _ (view : View) (octets : List ℕ → Option (List ℕ)) (path : List �
 
     pub join_changed : {A : Type 0} (late : Device) (last : Vec ℕ A) (told : Tally) (t : Taking)
         → WriteRowsResult octets paths runs t old late (Ok (last, told)) → IsReady shape t → (first : Bor (List ℕ))
-        → first.now ≡ path → result_of late (Err (Read first))
-    join_changed late last told t written is_ready first same =
+        → first.now ≡ path → (IsAsTold t.form.now told → ⊥) → result_of late (Err (Read first))
+    join_changed late last told t written is_ready first same other =
         not_as_told law title_law shape t is_ready paths runs same_paths same_runs late last told written first same
+        other
 
     pub join_ended : {A : Type 0} (late : Device) (last : Vec ℕ A) (told : Tally) (t : Taking)
         → WriteRowsResult octets paths runs t old late (Ok (last, told)) → IsReady shape t → IsAsTold t.form.now told

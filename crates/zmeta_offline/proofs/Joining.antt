@@ -1,6 +1,6 @@
 -- The facts of saved files together.
 use Rattle.std.proofs.Common.{◌≡◌, ◌∙◌, ℕ, zero, suc, ◌+◌, ◌<◌, List, [], ◌∷◌, ◌++◌, take, drop, length, get_or, append_assoc, Option, Some, None, Result, Ok, Err, refl, ap, sym, subst, arith}
-use Rattle.std.specs.Prelude.{IfSome, slice_index_or}
+use Rattle.std.specs.Prelude.{IfErr, IfSome, slice_index_or}
 use Rattle.std.specs.Borrow.{Bor}
 use Rattle.std.proofs.KnownBytes.{Keeps-refl}
 use Rattle.std.proofs.lemmas.List.{take_more, take-append-drop, map-append}
@@ -12,7 +12,7 @@ use Rattle.zknow.specs.declared.saved.loading.LoadError.TheVariants as loads
 use Rattle.zknow.specs.Saved.Loaded.{IsLoadFault}
 use Rattle.zmeta_devices.specs.Faults.{of_load}
 use Rattle.zmeta_args.specs.Texts.{texts_of}
-use Rattle.zmeta_offline.specs.Join.{LoadFileResult, IsSavedAt, IsFaultAt, AbsorbNamedResult, AreJoined, IsRefusedAmong, AbsorbAllResult, LoadAllResult, IsListOf, IsKnownStatus, PutListResult, JoinResult}
+use Rattle.zmeta_offline.specs.Join.{LoadFileResult, IsOfFile, IsSavedAt, IsFaultAt, LoadNamedResult, AbsorbNamedResult, AreJoined, IsRefusedAmong, AbsorbAllResult, LoadAllResult, IsListOf, IsKnownStatus, PutListResult, JoinResult}
 use Rattle.zmeta_offline.specs.Join.AreJoined.{one, more}
 use Rattle.zmeta_offline.specs.Join.IsRefusedAmong.{first, later, other_names}
 use Rattle.zmeta_devices.specs.Devices.{Device, IsUnchanged}
@@ -107,6 +107,21 @@ pub rest_refused : (octets : List ℕ → Option (List ℕ)) (names : List (List
     (old new : List Fact) (g f : Fault) (r : Result (List Fact × List (List ℕ)) Fault) → r ≡ Err f → f ≡ g
     → IsSavedAt octets path names old → AbsorbAllResult octets names rest old new (Err g) → LoadAllResult octets (path ∷ rest) r
 rest_refused octets names path rest old new g f r is of saved h = rw (is, of) (h (path ∷ []) (one path saved))
+
+-- what is so of the octets of a file, if they are known, and of its path
+pub named_result : (octets : List ℕ → Option (List ℕ)) (path : List ℕ)
+    (r : Result (List Fact × List (List ℕ)) Fault) → IfSome (octets path) (λ file. LoadFileResult file r)
+    → IfErr r (IsOfFile path) → LoadNamedResult octets path r
+named_result octets path (Ok r) loaded of = loaded
+named_result octets path (Err (NotKnowledge refused at)) loaded of = (of, loaded)
+named_result octets path (Err (NotCanonical refused at)) loaded of = (of, loaded)
+named_result octets path (Err (Read failed)) loaded of = (of, by (octets path) loaded)
+  where
+    by : (o : Option (List ℕ)) → IfSome o (λ file. ⊥) → o ≡ None
+    by None none = refl
+    by (Some file) none = absurd none
+named_result octets path (Err Memory) loaded of = tt
+named_result octets path (Err f) loaded of = absurd of
 
 -- the first file is refused
 pub first_refused : (octets : List ℕ → Option (List ℕ)) (path : List ℕ) (rest : List (List ℕ)) (g f : Fault)

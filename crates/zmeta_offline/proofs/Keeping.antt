@@ -6,7 +6,7 @@ use Rattle.std.specs.List.{AllByRecursion}
 use Rattle.std.proofs.KnownBytes.{Appends-nil}
 use Rattle.std.proofs.lemmas.List.{drop-take, drop_all, take_all, length-drop, length-map}
 use Rattle.zknow.specs.Tables.DistinctLaws.{in_head, in_tail}
-use Rattle.zknow_runs.specs.Rows.{StandAt, StandNext, IsWantedOf, Sources, HoldsOf, AfterReadOf}
+use Rattle.zknow_runs.specs.Rows.{StandAt, StandNext, IsWantedOf, IsWanted, Sources, HoldsOf, AfterReadOf}
 use Rattle.zknow_runs.specs.declared.rows.Next.{Next}
 use Rattle.zknow_runs.specs.declared.rows.ReadStep.{ReadStep}
 use Rattle.zknow_runs.specs.declared.rows.ReadStep.TheVariants as steps
@@ -16,8 +16,7 @@ use Rattle.zknow_runs.specs.declared.rows.Wanted.{Wanted}
 use Rattle.zmeta_args.specs.Texts.{texts_of}
 use Rattle.zmeta_devices.specs.Devices.{Device, HasGained, PutResult}
 use Rattle.zmeta_devices.specs.declared.fault.Fault.{Fault}
-use Rattle.zmeta_devices.specs.declared.fault.Fault.TheVariants.{Read, Memory}
-use Rattle.zmeta_offline.specs.Rows.{path_at, AreFilesAt, IsReader, IsKept, IsReadFault, IsReadFaultAmong, IsNext, HasRead, HasPut, PutPieceResult}
+use Rattle.zmeta_offline.specs.Rows.{path_at, AreFilesAt, IsReader, IsKept, HasRead, HasPut, PutPieceResult}
 use Rattle.zmeta_offline.specs.declared.rows.Reader.{Reader}
 
 -- ---- lists
@@ -87,20 +86,17 @@ path_in paths file path lt is =
 
 -- octets that stand where some are wanted stand where the next record is read
 pub stand_next : (octets : List ℕ → Option (List ℕ)) (paths : List (List ℕ)) (s : Sources) → AreFilesAt octets paths s
-    → (rows : Rows) (w : Wanted) → IsNext rows w → (kept : List ℕ)
+    → (rows : Rows) (w : Wanted) → IsWanted rows w → (kept : List ℕ)
     → StandAt (octets (path_at paths w.file)) w.begin kept → StandNext s.files rows kept
-stand_next octets paths s files rows w next kept stands = by rows.next next
+stand_next octets paths s files rows w wanted kept stands =
+    subst (λ (o : Option Next). IfSome o (λ n. StandAt (s.files n.run.file) n.run.begin kept)) (sym wanted.1)
+    (at wanted.0 wanted.2)
   where
     at : (n : Next) → IsWantedOf n w → StandAt (s.files n.run.file) n.run.begin kept
     at n is =
         subst (λ z. StandAt (s.files n.run.file) z kept) is.begin
         (subst (λ z. StandAt z w.begin kept) (sym (files n.run.file))
         (subst (λ z. StandAt (octets (path_at paths z)) w.begin kept) is.file stands))
-
-    by : (o : Option Next) → IfSome o (λ n. IsWantedOf n w)
-        → IfSome o (λ n. StandAt (s.files n.run.file) n.run.begin kept)
-    by None is = tt
-    by (Some n) is = at n is
 
 -- ---- results
 
@@ -111,12 +107,6 @@ ok_on (Err e) P Q f h = tt
 pub err_as : {A E : Type 0} (r : Result A E) (P Q : E → Type 0) → ((e : E) → P e → Q e) → IfErr r P → IfErr r Q
 err_as (Ok a) P Q f h = tt
 err_as (Err e) P Q f h = f e h
-
-pub fault_among : (paths : List (List ℕ)) (path : List ℕ) → Contains paths path → (f : Fault) → IsReadFault path f
-    → IsReadFaultAmong paths f
-fault_among paths path among (Read failed) is = subst (Contains paths) (sym is) among
-fault_among paths path among Memory is = tt
-fault_among paths path among f is = absurd is
 
 -- ---- what was read
 

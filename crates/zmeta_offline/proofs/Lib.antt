@@ -5,7 +5,9 @@ pub mod Choosing
 mod Picking
 pub mod Joining
 pub mod Merging
+pub mod Savings
 pub mod Extracting
+pub mod Filling
 mod Querying
 mod Changing
 mod NewsTheory

@@ -73,6 +73,8 @@ module _ (files : ℕ → Option (List ℕ)) (wanted other : Fact → Type 0) (u
     pub wanted_to : (runs : List Run) → AreAllWanted files wanted unknown runs → AreAllWanted files other also runs
     wanted_to runs are = record {
       covered = λ r h. covered_to (files r.file) r (are.covered r h);
+      some = are.some;
+      first = are.first;
       complete = λ f w. let by = are.complete f (back f w) in (by.0, by.1, owes_to by.0 f by.2);
     }
 

@@ -1,10 +1,10 @@
 -- Records are read, and nothing is written.
-use Rattle.std.proofs.Common.{◌≡◌, subst, ℕ, List, [], ◌++◌, Option, Result, Err}
+use Rattle.std.proofs.Common.{◌≡◌, subst, sym, ℕ, List, [], ◌++◌, Option, None, Result, Err}
 use Rattle.zknow.specs.declared.fact.Fact.{Fact}
 use Rattle.zknow.specs.declared.tables.keys.SetKey.{SetKey}
 use Rattle.zknow_forms.specs.Forms.{IsTold}
 use Rattle.zknow_forms.specs.declared.tally.Tally.{Tally}
-use Rattle.zknow_runs.specs.Rows.{Sources, AreRunsIn, HoldsOf, AreRowsOf}
+use Rattle.zknow_runs.specs.Rows.{IsTaken, IsWanted, Sources, AreRunsIn, HoldsOf, AreRowsOf}
 use Rattle.zknow_runs.specs.declared.rows.Chosen.{Chosen}
 use Rattle.zknow_runs.specs.declared.rows.Rows.{Rows}
 use Rattle.zknow_runs.specs.declared.rows.Taking.{Taking}
@@ -14,7 +14,8 @@ use Rattle.zknow_titles.specs.Blocks.{filled_in, filled_at}
 use Rattle.zknow_titles.specs.Rows.{widths}
 use Rattle.zknow_titles.specs.Titles.{rows_of}
 use Rattle.zmeta_devices.specs.declared.fault.Fault.{Fault}
-use Rattle.zmeta_offline.specs.Rows.{AreFilesAt, AreGivenOf, IsReader, IsReadFaultAmong, IsNext, HasRead, IsMeasured, IsOfRuns, MeasureRowsResult}
+use Rattle.zmeta_devices.specs.declared.fault.Fault.TheVariants.{Read, Memory}
+use Rattle.zmeta_offline.specs.Rows.{AreFilesAt, AreGivenOf, IsReader, IsNextFault, HasRead, IsMeasured, IsOfRuns, IsMissedRead, MeasureRowsResult}
 use Rattle.zmeta_offline.specs.declared.rows.Reader.{Reader}
 
 -- a tally says which columns these facts need, and at how many positions of a set a record is shown
@@ -58,7 +59,7 @@ module _ (octets : List ℕ → Option (List ℕ)) (paths : List (List ℕ)) (ru
   }
 
   -- the machine read
-  pub read : (wanted : Wanted) (old : Reader) (before : Rows) (new : Reader) (after : Rows) → IsNext before wanted
+  pub read : (wanted : Wanted) (old : Reader) (before : Rows) (new : Reader) (after : Rows) → IsWanted before wanted
       → HasRead octets paths wanted old before new after → IsMeasuring old before → IsMeasuring new after
   read wanted old before new after next has m = record {
     taking = m.taking;
@@ -67,6 +68,18 @@ module _ (octets : List ℕ → Option (List ℕ)) (paths : List (List ℕ)) (ru
     windows = has.reader m.windows;
     holds = λ s files are. has.holds m.windows next s files m.taking [] (m.holds s files are);
   }
+
+  -- the next record could not be read
+  pub next_missed : (wanted : Wanted) (reader : Reader) (rows : Rows) (f : Fault) → IsWanted rows wanted
+      → IsNextFault octets paths wanted reader rows f → IsMeasuring reader rows → IsMissedRead octets paths runs c f
+  next_missed wanted reader rows (Read failed) next fault m = (
+    fault.0,
+    λ s files are taken. subst (λ (p : List ℕ). octets p ≡ None) (sym fault.1)
+        (fault.2 m.windows next s files m.taking []
+        (λ f is. subst (λ (z : Chosen). IsTaken z f) (sym m.chosen) (taken f is)) (m.holds s files are)),
+  )
+  next_missed wanted reader rows Memory next fault m = tt
+  next_missed wanted reader rows f next fault m = absurd fault
 
   -- all was read
   pub ended : (reader : Reader) (rows : Rows) (last : List ℕ) (told : Tally)
@@ -83,6 +96,6 @@ module _ (octets : List ℕ → Option (List ℕ)) (paths : List (List ℕ)) (ru
       }
 
   -- it is broken off
-  pub missed : (g f : Fault) (r : Result Tally Fault) → r ≡ Err f → f ≡ g → IsReadFaultAmong paths g
+  pub missed : (g f : Fault) (r : Result Tally Fault) → r ≡ Err f → f ≡ g → IsMissedRead octets paths runs c g
       → MeasureRowsResult octets paths runs c shown r
   missed g f r is of among = rw (is, of) among

@@ -17,6 +17,7 @@ use Rattle.zknow_merge.specs.declared.step.Step.{Step}
 use Rattle.zknow_merge.specs.declared.step.Step.TheVariants.{Need, Refused, NamesDiffer, Done}
 use Rattle.zknow_merge.proofs.InputTheory.{fresh_length, fresh_at}
 use Rattle.zknow_merge.proofs.SourceTheory.{fed_open}
+use Rattle.zmeta_devices.proofs.DeviceSteps.{unknown_before}
 use Rattle.zmeta_devices.specs.Devices.{InputDevice}
 use Rattle.zmeta_devices.specs.Faults.{of_load}
 use Rattle.zmeta_devices.specs.declared.fault.Fault.{Fault}
@@ -309,7 +310,8 @@ refused_fault starts saved path loads.Memory h = tt
 pub read_fault : {X : Type 0} (f : X → InputDevice) (starts : List InputDevice) (streams : List X) (inputs : List Input)
     (saved : List ℕ) (k : ℕ) (fault : Fault) → AreReadTo starts (map f streams) inputs → k < length starts
     → k < length streams
-    → (fault ≡ Memory) ⊎ ((d : X) → (path : Bor (List ℕ)) × (path.now ≡ (f (get_or streams k d)).path) × (fault ≡ Read path))
+    → (fault ≡ Memory) ⊎ ((d : X) → (path : Bor (List ℕ)) × (path.now ≡ (f (get_or streams k d)).path)
+    × (fault ≡ Read path) × ((f (get_or streams k d)).known ≡ None))
     → IsMergeFault starts saved fault
 read_fault f starts streams inputs saved k fault read lt below h = elim h [
   | inl memory ↦ rw memory tt
@@ -321,6 +323,8 @@ read_fault f starts streams inputs saved k fault read lt below h = elim h [
         get_or starts k d,
         Contains-get_or starts k d lt,
         r.1 ∙ ap (λ (i : InputDevice). i.path) (sym (map_at f streams k d x below)) ∙ (read k d d lt).path,
+        unknown_before (get_or starts k d).known (get_or (map f streams) k d).known _ (read k d d lt).taken
+            (ap (λ (i : InputDevice). i.known) (map_at f streams k d x below) ∙ r.3),
       ))
 ]
 

@@ -27,6 +27,7 @@ use Rattle.zknow_merge.specs.declared.scan.FactPlace.{FactPlace}
 use Rattle.zknow_merge.specs.declared.scan.Scan.{Scan}
 use Rattle.zknow_merge.specs.declared.scan.ScanStep.{ScanStep}
 use Rattle.zknow_merge.specs.declared.scan.ScanStep.TheVariants as steps
+use Rattle.zmeta_devices.proofs.DeviceSteps.{unknown_before}
 use Rattle.zmeta_devices.specs.Devices.{InputDevice}
 use Rattle.zmeta_devices.specs.Faults.{of_load}
 use Rattle.zmeta_devices.specs.declared.fault.Fault.{Fault}
@@ -144,8 +145,10 @@ module _ (octets : List ℕ → Option (List ℕ)) (path : List ℕ) where
 
   -- it could not be read
   pub read_refused : (now : InputDevice) (found : Found) (s : Scan) (f : Fault) (at : Bor (List ℕ))
-      → IsScanning octets path now found s → at.now ≡ now.path → f ≡ Read at → IsFaultAt octets path f
-  read_refused now found s f at h is of = rw of (is ∙ h.read.path)
+      → IsScanning octets path now found s → at.now ≡ now.path → f ≡ Read at → now.known ≡ None
+      → IsFaultAt octets path f
+  read_refused now found s f at h is of none =
+      rw of (is ∙ h.read.path, unknown_before (octets path) now.known h.input.octets h.read.taken none)
 
   module _ (now : InputDevice) (s t : Scan) (found : Found) (h : IsScanning octets path now found s) where
     -- octets are needed

@@ -7,7 +7,8 @@ use Rattle.zknow.specs.Tables.DistinctLaws.{in_head}
 use Rattle.zknow_runs.specs.Placed.{all_placed}
 use Rattle.zknow_runs.specs.Runs.{HoldsRuns, AreAllRuns, IsRunOf}
 use Rattle.zknow_runs.specs.declared.run.Run.{Run}
-use Rattle.zknow_runs.proofs.PlacedTheory.{runs_cover, run_has_part, all_each}
+use Rattle.zknow_runs.proofs.CoverTheory.{runs_cover}
+use Rattle.zknow_runs.proofs.PlacedTheory.{run_has_part, all_each}
 use Rattle.zmeta_args.specs.Texts.{texts_of}
 use Rattle.zmeta_devices.specs.declared.fault.Fault.{Fault}
 use Rattle.zmeta_devices.specs.declared.fault.Fault.TheVariants.{Read, NotKnowledge, NotCanonical, NamesDiffer, NoCatalogue, Memory}

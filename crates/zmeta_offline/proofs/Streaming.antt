@@ -1,5 +1,5 @@
 -- The records of saved files are written in two passes.
-use Rattle.std.proofs.Common.{◌≡◌, ◌∙◌, ◌⊎◌, ◌↔◌, inl, inr, ⊎_elim, refl, sym, ap, subst, ℕ, Bool, true, false, List, [], ◌∷◌, ◌++◌, append_assoc, Option, Result, Ok, Err}
+use Rattle.std.proofs.Common.{◌≡◌, ◌∙◌, ◌⊎◌, ◌↔◌, inl, inr, ⊎_elim, refl, sym, ap, subst, ℕ, Bool, true, false, List, [], ◌∷◌, ◌++◌, append_assoc, Option, None, Result, Ok, Err}
 use Rattle.std.specs.Borrow.{Bor}
 use Rattle.std.specs.Prelude.{Contains, Vec}
 use Rattle.std.specs.Io.KnownBytes.{Appends}
@@ -243,7 +243,8 @@ module _ (e : WantedRecords) (octets : List ℕ → Option (List ℕ)) (path : L
         → result_of after (Err f)
     not_written A after same (Read failed) h = inr (
       refused_among octets m.names (path ∷ others) marked.theirs marked.saved failed.now
-          (subst (λ (z : List (List ℕ)). Contains z failed.now) same_paths h.0) (Read failed) refl,
+          (subst (λ (z : List (List ℕ)). Contains z failed.now) same_paths h.0.0) (Read failed)
+          (refl, of_runs (λ s. octets failed.now ≡ None) h.0.1),
       late after same (of_runs (IsCutOff t before.output after.output) h.1),
     )
     not_written A after same (Write failed) h =

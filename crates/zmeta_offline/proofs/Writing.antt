@@ -1,11 +1,11 @@
 -- The second pass goes on, and how it ends.
-use Rattle.std.proofs.Common.{◌≡◌, ◌∙◌, ◌⊎◌, inl, inr, refl, sym, ap, subst, ℕ, List, [], ◌++◌, append-nil, append_assoc, Option, Result, Ok, Err}
+use Rattle.std.proofs.Common.{◌≡◌, ◌∙◌, ◌⊎◌, inl, inr, refl, sym, ap, subst, ℕ, List, [], ◌++◌, append-nil, append_assoc, Option, None, Result, Ok, Err}
 use Rattle.std.specs.Borrow.{Bor}
 use Rattle.std.specs.Prelude.{Contains, Vec}
 use Rattle.zknow.specs.declared.fact.Fact.{Fact}
 use Rattle.zknow_forms.specs.declared.tally.Tally.{Tally}
 use Rattle.zknow_runs.specs.RowLaws.{AllRowLaws}
-use Rattle.zknow_runs.specs.Rows.{IsTaken, Sources, AreRunsIn, HoldsOf, AreRowsOf}
+use Rattle.zknow_runs.specs.Rows.{IsTaken, IsWanted, Sources, AreRunsIn, HoldsOf, AreRowsOf}
 use Rattle.zknow_runs.specs.declared.rows.Rows.{Rows}
 use Rattle.zknow_runs.specs.declared.rows.Taking.{Taking}
 use Rattle.zknow_runs.specs.declared.rows.Wanted.{Wanted}
@@ -13,7 +13,7 @@ use Rattle.zknow_runs.specs.declared.run.Run.{Run}
 use Rattle.zmeta_devices.specs.Devices.{Device, HasGained}
 use Rattle.zmeta_devices.specs.declared.fault.Fault.{Fault}
 use Rattle.zmeta_devices.specs.declared.fault.Fault.TheVariants.{Read, Write, Memory}
-use Rattle.zmeta_offline.specs.Rows.{AreFilesAt, IsReader, IsReadFaultAmong, IsNext, HasRead, HasPut, HasNotPut, IsWritten, IsCutOff, IsStopped, IsOfRuns, WriteRowsResult}
+use Rattle.zmeta_offline.specs.Rows.{AreFilesAt, IsReader, IsNextFault, HasRead, HasPut, HasNotPut, IsWritten, IsCutOff, IsStopped, IsOfRuns, IsMissedRead, WriteRowsResult}
 use Rattle.zmeta_offline.specs.declared.rows.Reader.{Reader}
 use Rattle.zmeta_offline.proofs.Joining.{kept}
 use Rattle.zmeta_offline.proofs.Keeping.{none_gained}
@@ -51,7 +51,7 @@ module _ (octets : List ℕ → Option (List ℕ)) (paths : List (List ℕ)) (ru
 
     -- the machine read
     pub read : (now : Device) (wanted : Wanted) (old : Reader) (before : Rows) (new : Reader) (after : Rows)
-        → IsNext before wanted → HasRead octets paths wanted old before new after
+        → IsWanted before wanted → HasRead octets paths wanted old before new after
         → IsGoing octets paths runs t start now old before → IsGoing octets paths runs t start now new after
     read now wanted old before new after next has going = record {
       windows = has.reader going.windows;
@@ -73,6 +73,20 @@ module _ (octets : List ℕ → Option (List ℕ)) (paths : List (List ℕ)) (ru
             has.holds s t w.0 w.2,
           );
     }
+
+    -- the next record could not be read
+    pub next_missed : (now : Device) (wanted : Wanted) (reader : Reader) (rows : Rows) (f : Fault)
+        → IsWanted rows wanted → IsNextFault octets paths wanted reader rows f
+        → IsGoing octets paths runs t start now reader rows → IsMissedRead octets paths runs t.chosen.now f
+    next_missed now wanted reader rows (Read failed) next fault going = (
+      fault.0,
+      λ s files are taken.
+          let w = going.holds s files are in
+          subst (λ (p : List ℕ). octets p ≡ None) (sym fault.1)
+          (fault.2 going.windows next s files t w.0 taken w.2),
+    )
+    next_missed now wanted reader rows Memory next fault going = tt
+    next_missed now wanted reader rows f next fault going = absurd fault
 
     -- all was read
     pub ended : (now : Device) (reader : Reader) (rows : Rows) (last : List ℕ) (told : Tally)
@@ -104,8 +118,8 @@ module _ (octets : List ℕ → Option (List ℕ)) (paths : List (List ℕ)) (ru
       )
       stopped A old new reader before after f has going = absurd has.failed
 
-      missed : (A : Type 0) (now : Device) (reader : Reader) (rows : Rows) (f : Fault) → IsReadFaultAmong paths f
-          → IsGoing octets paths runs t start now reader rows
+      missed : (A : Type 0) (now : Device) (reader : Reader) (rows : Rows) (f : Fault)
+          → IsMissedRead octets paths runs t.chosen.now f → IsGoing octets paths runs t start now reader rows
           → WriteRowsResult octets paths runs {A = A} t start now (Err f)
       missed A now reader rows (Read failed) among going = (among, cut_off now reader rows going)
       missed A now reader rows Memory among going = inr (cut_off now reader rows going)
@@ -113,7 +127,7 @@ module _ (octets : List ℕ → Option (List ℕ)) (paths : List (List ℕ)) (ru
 
       -- with the result that is returned
       pub missed_as : {A : Type 0} (now : Device) (reader : Reader) (rows : Rows) (g f : Fault)
-          (r : Result (Vec ℕ A × Tally) Fault) → r ≡ Err f → f ≡ g → IsReadFaultAmong paths g
+          (r : Result (Vec ℕ A × Tally) Fault) → r ≡ Err f → f ≡ g → IsMissedRead octets paths runs t.chosen.now g
           → IsGoing octets paths runs t start now reader rows → WriteRowsResult octets paths runs t start now r
       missed_as {A = A} now reader rows g f r is of among going =
           rw (is, of) (missed A now reader rows g among going)

@@ -1,5 +1,5 @@
 -- What `join` prints for saved files.
-use Rattle.std.specs.Prelude.{◌≡◌, ◌≢◌, ◌⊎◌, ℕ, List, [], ◌∷◌, ◌++◌, Contains, Option, IfSome, Result, Ok, Err, MatchResult}
+use Rattle.std.specs.Prelude.{◌≡◌, ◌≢◌, ◌⊎◌, ℕ, List, [], ◌∷◌, ◌++◌, Contains, Option, None, IfSome, Result, Ok, Err, MatchResult}
 use Rattle.zknow.specs.declared.fact.Fact.{Fact}
 use Rattle.zmeta_args.specs.declared.arguments.View.{View}
 use Rattle.zknow.specs.Facts.{AreFacts}
@@ -9,8 +9,8 @@ use Rattle.zmeta_offline.specs.Views.{printed}
 use Rattle.zknow.specs.Saved.Saved.{IsSaved}
 use Rattle.zknow.specs.Saved.Loaded.{IsNotKnowledge, IsNotCanonical}
 use Rattle.zmeta_devices.specs.Devices.{Device, Outputs, IsUnchanged, HasGained, PutFailure, AfterReport, AfterEnd}
-use Rattle.zmeta_devices.specs.Files.{MadeFiles}
-use Rattle.zmeta_offline.specs.Saved.{SaveFactsResult}
+use Rattle.zmeta_devices.specs.Files.{Files, with_draft}
+use Rattle.zmeta_offline.specs.Saved.{IsDraftFault, SaveFactsResult}
 use Rattle.zmeta_devices.specs.declared.fault.Fault.{Fault}
 use Rattle.zmeta_devices.specs.declared.fault.Fault.TheVariants.{Read, Write, NotKnowledge, NotCanonical}
 use Rattle.zmeta_devices.specs.declared.fault.Fault.TheVariants.{NamesDiffer, Memory}
@@ -24,11 +24,10 @@ abbrev pub LoadFileResult : List ℕ → Result (List Fact × List (List ℕ)) F
 LoadFileResult file (Ok r) = IsSaved r.1 r.0 file
 LoadFileResult file (Err (NotKnowledge path at)) = IsNotKnowledge file at
 LoadFileResult file (Err (NotCanonical path at)) = IsNotCanonical file at
-LoadFileResult file (Err (Read path)) = Unit {0}
 LoadFileResult file (Err Memory) = Unit {0}
 LoadFileResult file (Err _) = ⊥
 
--- a fault of the file at a path: it cannot be read, is no saved file, or no memory was found
+-- a fault of the file at a path: a read of it failed, it is no saved file, or no memory was found
 abbrev pub IsOfFile : List ℕ → Fault → Type 0
 IsOfFile path (Read failed) = failed.now ≡ path
 IsOfFile path (NotKnowledge refused at) = refused.now ≡ path
@@ -42,9 +41,9 @@ module _ (octets : List ℕ → Option (List ℕ)) where
   abbrev pub IsSavedAt : List ℕ → List (List ℕ) → List Fact → Type 0
   IsSavedAt path names facts = IfSome (octets path) (λ file. IsSaved names facts file)
 
-  -- the fault of the file at the path
+  -- the fault of the file at the path; no read of one fails of which the octets are known
   abbrev pub IsFaultAt : List ℕ → Fault → Type 0
-  IsFaultAt path (Read failed) = failed.now ≡ path
+  IsFaultAt path (Read failed) = (failed.now ≡ path) × (octets path ≡ None)
   IsFaultAt path (NotKnowledge refused at) =
       (refused.now ≡ path) × IfSome (octets path) (λ file. IsNotKnowledge file at)
   IsFaultAt path (NotCanonical refused at) =
@@ -156,27 +155,28 @@ IsEndOfBoth facts printed (Err f) old new result = (result ≡ Err f) × AfterRe
 
 -- what became of the list, and, whatever that is, of the file; and the result
 pub record ListAndSaveResult (names : List (List ℕ)) (facts : List Fact) (view : View) (saved : List ℕ)
-    (old new : MadeFiles) (before after : Outputs) (result : Result Status Fault) : Type 0 where
+    (old new : Files) (before after : Outputs) (result : Result Status Fault) : Type 0 where
   pub shown : Result (Unit {0}) Fault
   pub kept : Result (Unit {0}) Fault
   pub list : ListFactsResult (printed names view [] [] facts) before.output after.output shown
   pub file : SaveFactsResult names facts saved old new kept
   pub end : IsEndOfBoth facts shown kept before.errors after.errors result
 
--- a file is refused, and nothing was printed or saved; or what became of the list and the file of all facts
+-- Nothing was printed or saved: no draft was begun, or a file is refused. Or what became of the list and the file of all
+-- facts.
 abbrev pub JoinSavedResult
-    : View → (List ℕ → Option (List ℕ)) → List (List ℕ) → List ℕ → MadeFiles → MadeFiles → Outputs → Outputs
-    → Result Status Fault → Type 0
-JoinSavedResult view octets paths saved old new before after result =
-    ((f : Fault) × (result ≡ Err f) × IsRefusedAmong octets paths f × (new ≡ old) × (after ≡ before))
-    ⊎ ((names : List (List ℕ)) × (facts : List Fact) × AreJoined octets names paths facts
-    × ListAndSaveResult names facts view saved old new before after result)
+    : View → List (List ℕ) → List ℕ → Files → Files → Outputs → Outputs → Result Status Fault → Type 0
+JoinSavedResult view paths saved old new before after result =
+    ((f : Fault) × (result ≡ Err f) × IsDraftFault saved f × (new ≡ old) × (after ≡ before))
+    ⊎ ((f : Fault) × (result ≡ Err f) × IsRefusedAmong old.octets paths f × (new ≡ with_draft old saved)
+    × (after ≡ before))
+    ⊎ ((names : List (List ℕ)) × (facts : List Fact) × AreJoined old.octets names paths facts
+    × ListAndSaveResult names facts view saved (with_draft old saved) new before after result)
 
--- the files made, the streams and the status after `join` with a file that is made; `between` is standard error before
--- a fault is reported
+-- the folder, the streams and the status after `join` with a file that is made; `between` is standard error before a
+-- fault is reported
 abbrev pub AfterJoinSaved
-    : View → (List ℕ → Option (List ℕ)) → List (List ℕ) → List ℕ → MadeFiles → MadeFiles → Outputs → Outputs → Status
-    → Type 0
-AfterJoinSaved view octets paths saved old new before after status = (result : Result Status Fault) × (between : Device)
-    × JoinSavedResult view octets paths saved old new before (record after { errors = between }) result
+    : View → List (List ℕ) → List ℕ → Files → Files → Outputs → Outputs → Status → Type 0
+AfterJoinSaved view paths saved old new before after status = (result : Result Status Fault) × (between : Device)
+    × JoinSavedResult view paths saved old new before (record after { errors = between }) result
     × AfterEnd result between after.errors status

@@ -1,5 +1,5 @@
 -- What `join` prints for files that are read more than once: a list, lines of JSON, or a view for readers.
-use Rattle.std.specs.Prelude.{◌≡◌, ◌⊎◌, ℕ, List, [], ◌∷◌, ◌++◌, map, string_bytes, Option, Some, None, Result, Ok, Err, ⊤}
+use Rattle.std.specs.Prelude.{◌≡◌, ◌⊎◌, ℕ, List, [], ◌∷◌, ◌++◌, map, string_bytes, Contains, Option, Some, None, Result, Ok, Err, ⊤}
 use Rattle.zber.specs.declared.text.Mode.TheVariants as modes
 use Rattle.zknow.specs.declared.fact.Fact.{Fact}
 use Rattle.zknow.specs.declared.tables.keys.SetKey.{SetKey}
@@ -21,7 +21,7 @@ use Rattle.zmeta_devices.specs.declared.fault.Fault.TheVariants.{Read, Write, Me
 use Rattle.zmeta_devices.specs.declared.fault.Status.{Status}
 use Rattle.zmeta_offline.specs.Join.{AreJoined, IsRefusedAmong, IsListOf, JoinResult}
 use Rattle.zmeta_offline.specs.Marked.{AreMarked, HasUnknown}
-use Rattle.zmeta_offline.specs.Rows.{IsReadFaultAmong, IsMeasured, IsOfRuns}
+use Rattle.zmeta_offline.specs.Rows.{IsMissedRead, IsMeasured, IsOfRuns}
 use Rattle.zmeta_offline.specs.Streamed.{HasGainedFront}
 use Rattle.zmeta_offline.specs.declared.joined.PartedView.{PartedView}
 use Rattle.zmeta_offline.specs.declared.joined.PartedView.TheVariants as parts
@@ -57,7 +57,7 @@ abbrev pub FormResult : (List ℕ → Option (List ℕ)) → List (List ℕ) →
     → Result Form Fault → Type 0
 FormResult octets paths runs c names shape (Ok form) =
     IsFormOf names shape form × IsOfRuns octets paths runs c (IsMeasuredForm c form)
-FormResult octets paths runs c names shape (Err f) = IsReadFaultAmong paths f
+FormResult octets paths runs c names shape (Err f) = IsMissedRead octets paths runs c f
 
 -- ---- the command
 
@@ -86,11 +86,17 @@ module _ (view : View) (octets : List ℕ → Option (List ℕ)) (paths : List (
     pub list : IsListOrSo facts text
     pub output : HasGainedFront old new text
 
-  -- A file could not be read any more, or no memory was found, behind a part of the list; or the stream failed at a
-  -- view for readers that may have other columns.
+  -- A view for readers does not have the columns, or the numbers of positions, that are told of the records that were
+  -- written.
+  abbrev pub IsOtherView : Type 0
+  IsOtherView = (extent : Extent) × (parted view ≡ Some (parts.Readers extent))
+
+  -- A file could not be read any more, or is not as it was, or no memory was found, behind a part of the list; or the
+  -- stream failed at a view for readers that may have other columns.
   abbrev pub IsLateJoinFault : Device → Device → Result Status Fault → Type 0
   IsLateJoinFault old new (Ok status) = ⊥
-  IsLateJoinFault old new (Err (Read path)) = IsRefusedAmong octets paths (Read path) × IsListBrokenOff old new
+  IsLateJoinFault old new (Err (Read path)) =
+      (IsRefusedAmong octets paths (Read path) ⊎ (Contains paths path.now × IsOtherView)) × IsListBrokenOff old new
   IsLateJoinFault old new (Err (Write failed)) = (facts : List Fact) × (text : List ℕ)
       × IsMismeasured facts text × PutFailure old new text (Write failed)
   IsLateJoinFault old new (Err Memory) = IsListBrokenOff old new

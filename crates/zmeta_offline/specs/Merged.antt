@@ -1,5 +1,5 @@
 -- The merge of saved files into one that is made.
-use Rattle.std.specs.Prelude.{◌≡◌, ◌≢◌, ◌⊎◌, ℕ, ◌<◌, Bool, true, false, List, ◌++◌, length, map, vec_len, Contains, slice_index_or, Option, Result, Ok, Err, IfSome}
+use Rattle.std.specs.Prelude.{◌≡◌, ◌≢◌, ℕ, ◌<◌, Bool, true, false, List, ◌++◌, length, map, vec_len, Contains, slice_index_or, Option, None, Result, Ok, Err, IfSome}
 use Rattle.std.specs.Io.KnownBytes.{Appends, Consumes, IsAtEnd}
 use Rattle.zknow.specs.Saved.Loaded.{IsNotKnowledge, IsNotCanonical}
 use Rattle.zknow_merge.specs.Inputs.{Input, input_at}
@@ -8,7 +8,7 @@ use Rattle.zknow_merge.specs.Merges.{IsMerge, IsStep}
 use Rattle.zknow_merge.specs.declared.step.Step.{Step}
 use Rattle.zmeta_devices.specs.Devices.{Device, InputDevice, AfterEnd}
 use Rattle.zmeta_devices.specs.Faults.{as_done}
-use Rattle.zmeta_devices.specs.Files.{MadeFiles, MakesFile, MakesInPart, IsDraft}
+use Rattle.zmeta_devices.specs.Files.{Files, FileSteps, IsDraft, with_draft, IsNewFile, IsUnmade}
 use Rattle.zmeta_devices.specs.declared.fault.Fault.{Fault}
 use Rattle.zmeta_devices.specs.declared.fault.Fault.TheVariants.{Read, Write, NotKnowledge, NotCanonical, NamesDiffer, Memory}
 use Rattle.zmeta_devices.specs.declared.fault.Status.{Status}
@@ -70,10 +70,11 @@ pub record HasOthers (streams : List InputDevice) : Type 0 where
   pub file : IsSavedFile streams others number
   pub differ : others ≢ names
 
--- why no file is made: a stream is refused or could not be read, what was merged could not be written, or no memory was
--- found
+-- why no file is made: a stream is refused; a read of one failed, of which it is not known what it has; what was merged
+-- could not be written; or no memory was found
 abbrev pub IsMergeFault : List InputDevice → List ℕ → Fault → Type 0
-IsMergeFault streams saved (Read failed) = (s : InputDevice) × Contains streams s × (failed.now ≡ s.path)
+IsMergeFault streams saved (Read failed) =
+    (s : InputDevice) × Contains streams s × (failed.now ≡ s.path) × (s.known ≡ None)
 IsMergeFault streams saved (Write failed) = failed.now ≡ saved
 IsMergeFault streams saved NamesDiffer = HasOthers streams
 IsMergeFault streams saved Memory = Unit {0}
@@ -132,32 +133,25 @@ MergeResult streams saved old new (Err f) = IsMergeFault streams saved f
 
 -- ---- the file that is made
 
--- what the draft holds is the join, if it is known; it is known where the files made are
-abbrev pub IsJoinDraft : List InputDevice → MadeFiles → Option (List ℕ) → Type 0
-IsJoinDraft streams made contents =
-    (begun : Option (List ℕ)) × IsDraft made begun × IsWritten streams begun contents
+-- what the draft holds is the join, if it is known; it is known where the steps are
+abbrev pub IsJoinDraft : List InputDevice → FileSteps → Option (List ℕ) → Type 0
+IsJoinDraft streams steps contents =
+    (begun : Option (List ℕ)) × IsDraft steps begun × IsWritten streams begun contents
 
--- a draft of the join, or why there is none
+-- a draft of the join was begun, or why it was given up; each file is as it was
 abbrev pub DraftResult
-    : {D : Type 0} → (D → Option (List ℕ)) → List InputDevice → List ℕ → MadeFiles → Result D Fault → Type 0
-DraftResult contents streams saved made (Ok draft) = IsJoinDraft streams made (contents draft)
-DraftResult contents streams saved made (Err f) = IsMergeFault streams saved f
+    : {D : Type 0} → (D → Option (List ℕ)) → List InputDevice → List ℕ → Files → Files → Result D Fault → Type 0
+DraftResult contents streams saved old new (Ok draft) =
+    (new ≡ with_draft old saved) × IsJoinDraft streams new.steps (contents draft)
+DraftResult contents streams saved old new (Err f) = IsMergeFault streams saved f × IsUnmade old new saved
 
--- no file was made, or one at the path that holds a front of the join
-abbrev pub IsUnmade : List InputDevice → List ℕ → MadeFiles → MadeFiles → Type 0
-IsUnmade streams saved old new =
-    (new ≡ old) ⊎ ((join : List ℕ) × IsJoinOf streams join × MakesInPart old new saved join)
-
--- one file was made, at the path, and it is the join; or why not
-abbrev pub MergeFilesResult
-    : List InputDevice → List ℕ → MadeFiles → MadeFiles → Result (Unit {0}) Fault → Type 0
+-- the file at the path is the join, and no other changed; or why not, and each file is as it was
+abbrev pub MergeFilesResult : List InputDevice → List ℕ → Files → Files → Result (Unit {0}) Fault → Type 0
 MergeFilesResult streams saved old new (Ok u) =
-    (join : List ℕ) × IsJoinOf streams join × MakesFile old new (record { path = saved; octets = join })
-MergeFilesResult streams saved old new (Err (Write failed)) = (failed.now ≡ saved) × IsUnmade streams saved old new
-MergeFilesResult streams saved old new (Err f) = IsMergeFault streams saved f × (new ≡ old)
+    (join : List ℕ) × IsJoinOf streams join × IsNewFile old new saved join
+MergeFilesResult streams saved old new (Err f) = IsMergeFault streams saved f × IsUnmade old new saved
 
--- the files made, standard error and the status after a merge
-abbrev pub AfterMerge
-    : (List ℕ → Option (List ℕ)) → List (List ℕ) → List ℕ → MadeFiles → MadeFiles → Device → Device → Status → Type 0
-AfterMerge octets paths saved old new before after status = (result : Result (Unit {0}) Fault)
-    × MergeFilesResult (streams_at octets paths) saved old new result × AfterEnd (as_done result) before after status
+-- the folder, standard error and the status after a merge
+abbrev pub AfterMerge : List (List ℕ) → List ℕ → Files → Files → Device → Device → Status → Type 0
+AfterMerge paths saved old new before after status = (result : Result (Unit {0}) Fault)
+    × MergeFilesResult (streams_at old.octets paths) saved old new result × AfterEnd (as_done result) before after status

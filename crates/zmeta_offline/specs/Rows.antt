@@ -1,11 +1,11 @@
 -- What is read of saved files where their records stand, and what is written of the records in a form.
-use Rattle.std.specs.Prelude.{◌≡◌, ◌⊎◌, ℕ, true, List, [], ◌++◌, slice_index_or, Contains, Option, IfSome, Result, Ok, Err, MatchResult, Vec, ⊤}
+use Rattle.std.specs.Prelude.{◌≡◌, ◌⊎◌, ◌<◌, ℕ, true, List, [], ◌++◌, length, slice_index_or, Contains, Option, None, IfSome, Result, Ok, Err, MatchResult, Vec, ⊤}
 use Rattle.std.specs.List.{AllByRecursion}
 use Rattle.zknow.specs.declared.fact.Fact.{Fact}
 use Rattle.zknow.specs.declared.tables.keys.SetKey.{SetKey}
 use Rattle.zknow_forms.specs.declared.tally.Tally.{Tally}
 use Rattle.zknow_runs.specs.RowLaws.{AreRowsFrontOf}
-use Rattle.zknow_runs.specs.Rows.{StandAt, IsTaken, IsWantedOf, Sources, AreRunsIn, AreGiven, HoldsOf, AreRowsOf}
+use Rattle.zknow_runs.specs.Rows.{StandAt, IsTaken, IsWanted, Sources, AreRunsIn, AreGiven, AreTaken, HoldsOf, AreRowsOf}
 use Rattle.zknow_runs.specs.declared.rows.Chosen.{Chosen}
 use Rattle.zknow_runs.specs.declared.rows.Rows.{Rows}
 use Rattle.zknow_runs.specs.declared.rows.Taking.{Taking}
@@ -47,29 +47,36 @@ abbrev pub IsKept : Reader → Wanted → List ℕ → Type 0
 IsKept r w kept = (octets : List ℕ → Option (List ℕ)) (paths : List (List ℕ)) → IsReader octets paths r
     → StandAt (octets (path_at paths w.file)) w.begin kept
 
--- why a file is not read: it cannot be read, or is not as it was, or no memory was found
-abbrev pub IsReadFault : List ℕ → Fault → Type 0
-IsReadFault path (Read failed) = failed.now ≡ path
-IsReadFault path Memory = ⊤
-IsReadFault path _ = ⊥
+-- a read of the file at a path failed, and this is so; or no memory was found
+abbrev pub IsReadFault : Type 0 → List ℕ → Fault → Type 0
+IsReadFault IsSo path (Read failed) = (failed.now ≡ path) × IsSo
+IsReadFault IsSo path Memory = ⊤
+IsReadFault IsSo path _ = ⊥
 
--- the same of one of the files at these paths
-abbrev pub IsReadFaultAmong : List (List ℕ) → Fault → Type 0
-IsReadFaultAmong paths (Read failed) = Contains paths failed.now
-IsReadFaultAmong paths Memory = ⊤
-IsReadFaultAmong paths _ = ⊥
+-- the file has fewer octets, if its octets are known
+abbrev pub EndsBefore : Option (List ℕ) → ℕ → Type 0
+EndsBefore file end = IfSome file (λ xs. length xs < end)
 
 -- ---- steps
 
--- octets are wanted of the run that is read next
-abbrev pub IsNext : Rows → Wanted → Type 0
-IsNext rows w = IfSome rows.next (λ n. IsWantedOf n w)
+-- It is not known what the file has where octets are wanted, if they are wanted of the run that is read next. The
+-- reader and the machine are of these files.
+abbrev pub IsUnknownTo : (List ℕ → Option (List ℕ)) → List (List ℕ) → Wanted → Reader → Rows → Type 0
+IsUnknownTo octets paths w r rows = IsReader octets paths r → IsWanted rows w → (s : Sources) → AreFilesAt octets paths s
+    → (t : Taking) (text : List ℕ) → AreTaken s t → HoldsOf s t text rows → octets (path_at paths w.file) ≡ None
+
+-- why no octets of the machine's next record are read: it is not known what its file has, or no memory was found
+abbrev pub IsNextFault : (List ℕ → Option (List ℕ)) → List (List ℕ) → Wanted → Reader → Rows → Fault → Type 0
+IsNextFault octets paths w r rows (Read failed) =
+    Contains paths failed.now × (failed.now ≡ path_at paths w.file) × IsUnknownTo octets paths w r rows
+IsNextFault octets paths w r rows Memory = ⊤
+IsNextFault octets paths w r rows _ = ⊥
 
 -- the machine was given octets that stand where some were wanted, and the windows of the reader stand
 pub record HasRead (octets : List ℕ → Option (List ℕ)) (paths : List (List ℕ)) (w : Wanted) (old : Reader)
     (before : Rows) (new : Reader) (after : Rows) : Type 0 where
   pub reader : IsReader octets paths old → IsReader octets paths new
-  pub holds : IsReader octets paths old → IsNext before w → (s : Sources) → AreFilesAt octets paths s → (t : Taking)
+  pub holds : IsReader octets paths old → IsWanted before w → (s : Sources) → AreFilesAt octets paths s → (t : Taking)
       (text : List ℕ) → HoldsOf s t text before → HoldsOf s t text after
 
 -- some of the machine's octets were written
@@ -129,10 +136,17 @@ module _ (octets : List ℕ → Option (List ℕ)) (paths : List (List ℕ)) (ru
   IsOfRuns c P = (s : Sources) → AreFilesAt octets paths s → AreRunsIn s runs
       → ((f : Fact) → Contains s.known f → IsTaken c f) → P s
 
+  -- why records are not read: it is not known what one of the files has, or no memory was found
+  abbrev pub IsMissedRead : Chosen → Fault → Type 0
+  IsMissedRead c (Read failed) = Contains paths failed.now × IsOfRuns c (λ s. octets failed.now ≡ None)
+  IsMissedRead c Memory = ⊤
+  IsMissedRead c _ = ⊥
+
   -- all was written, but for the last octets, or why not
   abbrev pub WriteRowsResult : {A : Type 0} → Taking → Device → Device → Result (Vec ℕ A × Tally) Fault → Type 0
   WriteRowsResult t old new (Ok r) = IsOfRuns t.chosen.now (IsWritten t old new r.0.items r.1)
-  WriteRowsResult t old new (Err (Read failed)) = Contains paths failed.now × IsOfRuns t.chosen.now (IsCutOff t old new)
+  WriteRowsResult t old new (Err (Read failed)) =
+      IsMissedRead t.chosen.now (Read failed) × IsOfRuns t.chosen.now (IsCutOff t old new)
   WriteRowsResult t old new (Err (Write failed)) =
       (failed.now ≡ old.path) × IsOfRuns t.chosen.now (IsStopped t old new)
   WriteRowsResult t old new (Err Memory) = IsUnchanged old new ⊎ IsOfRuns t.chosen.now (IsCutOff t old new)
@@ -141,4 +155,4 @@ module _ (octets : List ℕ → Option (List ℕ)) (paths : List (List ℕ)) (ru
   -- all was measured, or why not
   abbrev pub MeasureRowsResult : Chosen → List (List ℕ) → Result Tally Fault → Type 0
   MeasureRowsResult c shown (Ok told) = IsOfRuns c (IsMeasured shown c told.widths told.filled.entries)
-  MeasureRowsResult c shown (Err f) = IsReadFaultAmong paths f
+  MeasureRowsResult c shown (Err f) = IsMissedRead c f

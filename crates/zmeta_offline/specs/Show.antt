@@ -51,7 +51,7 @@ HasShownFront digits old new = (xs text : List ℕ) × (end : Result (Unit {0}) 
 -- the result of `show`, and the stream after it
 abbrev pub ShowResult : List ℕ → Device → Device → Result (Unit {0}) Fault → Type 0
 ShowResult digits old new (Err Hex) = ((xs : List ℕ) → octets_of digits ≡ Ok xs → ⊥) × IsUnchanged old new
-ShowResult digits old new (Err (Read path)) = IsUnchanged old new
+ShowResult digits old new (Err (Read path)) = ⊥
 ShowResult digits old new (Err (Write path)) = HasShownFront digits old new
 ShowResult digits old new (Err Memory) = IsUnchanged old new
 ShowResult digits old new result = ShowDigitsResult digits old new result

@@ -3,23 +3,26 @@ ghost use Rattle.std.specs.Prelude.{◌≡◌, ◌↔◌, ◌∷◌, [], IsTrue,
 ghost use Rattle.zmeta_args.specs.Texts.{texts_of};
 ghost use Rattle.zmeta_offline.specs.Join.{IsKnownStatus, LoadFileResult, LoadNamedResult, LoadAllResult, AbsorbNamedResult, AbsorbAllResult, IsOfFile, PutListResult, JoinResult, ListFactsResult, ListAndSaveResult, AfterJoinSaved};
 ghost use Rattle.zmeta_offline.specs.Joined.{AfterJoin, StreamedJoinResult};
+ghost use Rattle.zmeta_offline.specs.Saved.{IsBegun};
 ghost use Rattle.zmeta_devices.specs.Devices.{output_device, outputs};
+ghost use Rattle.zmeta_devices.specs.Files.{folder};
 ghost use Rattle.zmeta_offline.specs.Views.{printed};
 ghost use Rattle.zmeta_devices.specs.declared.fault.Fault.{Fault};
 ghost use Rattle.zmeta_devices.specs.declared.fault.Status.{Status};
 
 use crate::joined::{join_streamed, parted};
 use crate::records::{SavedFiles, are_seekable};
-use crate::saved::save_facts;
+use crate::saved::{Saving, begin_draft, save_facts};
 use crate::view::print_view;
 use std::alloc::Global;
-use std::io::{Read, Write};
+use std::io::Write;
 use zknow::{Knowledge, Names, load};
 use zmeta_args::View;
 use zmeta_devices::fault::{Fault, Status, end, report_failure};
 use zmeta_devices::files::{Folder, file_at};
 use zmeta_devices::input::Input;
 use zmeta_devices::output::Output;
+use zmeta_devices::readable::Readable;
 
 /// Prints the list of all facts of the saved files at these paths.
 ///
@@ -90,12 +93,13 @@ fn join_files<'a, 'o: 'a, F: Folder, W: Write>(
 }
 
 /// Prints the list of all facts of the saved files at these paths, and saves these facts in one file, which is made at
-/// the path `saved`, whatever becomes of the list.
+/// the path `saved`, whatever becomes of the list. That file may be one of those that are read.
 ///
-/// If a file is refused, or has other names than those before it, writes the reason on `errors`; nothing is printed or
-/// saved.
+/// If no draft of that file can be begun, or a file is refused, or has other names than those before it, writes the
+/// reason on `errors`; nothing is printed or saved.
 ///
 /// Returns `Failed` if the list has a search or an association that failed.
+#[tactic(auto, using(crate::proofs::Savings::of_joins))]
 pub fn join_saved<'a, 'o: 'a, F: Folder, W: Write, E: Write>(
     alloc: Global,
     files: &mut F,
@@ -106,15 +110,24 @@ pub fn join_saved<'a, 'o: 'a, F: Folder, W: Write, E: Write>(
     output: &mut Output<'o, W>,
     errors: &mut Output<'_, E>,
 ) -> Status
-    ensures { AfterJoinSaved view.entry (F.octets files.old) (first.entry.now ∷ texts_of others.now) saved.entry.now
-        (F.made files.old) (F.made files.new) (outputs W.contents E.contents output.old errors.old)
+    ensures { AfterJoinSaved view.entry (first.entry.now ∷ texts_of others.now) saved.entry.now
+        (folder F.octets F.are_one F.steps files.old) (folder F.octets F.are_one F.steps files.new)
+        (outputs W.contents E.contents output.old errors.old)
         (outputs W.contents E.contents output.new errors.new) result }
 {
-    let known = match load_all(alloc, files, first, others) {
-        Ok(known) => known,
+    let draft = match begin_draft(files, saved) {
+        Ok(draft) => draft,
         Err(fault) => return end(Err(fault), errors),
     };
-    let answer = list_and_save(alloc, files, &known, saved, view, output, errors);
+    let known = match load_all(alloc, files, first, others) {
+        Ok(known) => known,
+        Err(fault) => {
+            files.discard(draft);
+            return end(Err(fault), errors);
+        }
+    };
+    let saving = Saving { path: saved, draft };
+    let answer = list_and_save(alloc, files, &known, saving, view, output, errors);
     drop(known);
     end(answer, errors)
 }
@@ -126,17 +139,19 @@ fn list_and_save<'a, 'o: 'a, F: Folder, W: Write, E: Write>(
     alloc: Global,
     files: &mut F,
     known: &(Knowledge, Names),
-    saved: &'a str,
+    saving: Saving<'a, F::Draft>,
     view: View<'_>,
     output: &mut Output<'o, W>,
     errors: &mut Output<'_, E>,
 ) -> Result<Status, Fault<'a>>
-    ensures { ListAndSaveResult known.now.1 known.now.0 view.entry saved.entry.now (F.made files.old) (F.made files.new)
+    requires { IsBegun F.Draft.contents (F.steps files.old) saving }
+    ensures { ListAndSaveResult known.now.1 known.now.0 view.entry saving.entry.path.now
+        (folder F.octets F.are_one F.steps files.old) (folder F.octets F.are_one F.steps files.new)
         (outputs W.contents E.contents output.old errors.old)
         (outputs W.contents E.contents output.new errors.new) result }
 {
     let printed = list_facts(alloc, known, view, output);
-    match save_facts(alloc, files, saved, &known.0, &known.1) {
+    match save_facts(alloc, files, saving, &known.0, &known.1) {
         Ok(()) => {
             printed?;
             Ok(known_status(&known.0))
@@ -243,6 +258,7 @@ fn absorb_named<'a, F: Folder>(
 }
 
 /// Returns the facts and names of the file at a path.
+#[tactic(auto, using(crate::proofs::Joining::named_result))]
 pub(crate) fn load_named<'a, F: Folder>(
     alloc: Global,
     files: &F,
@@ -255,7 +271,7 @@ pub(crate) fn load_named<'a, F: Folder>(
 }
 
 /// Returns the facts and names of one file.
-fn load_file<'a, R: Read>(
+fn load_file<'a, R: Readable>(
     alloc: Global,
     file: &mut Input<'a, R>,
 ) -> Result<(Knowledge, Names), Fault<'a>>

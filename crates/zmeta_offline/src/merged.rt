@@ -1,28 +1,29 @@
 //! The merge of saved files into one, in pieces: their size may pass that of memory.
-ghost use Rattle.std.specs.Prelude.{◌≡◌, ◌⊎◌, ◌∷◌, ◌<◌, ℕ, List, [], Option, false, length, map, vec_len, slice_index_or, IfOk, IfErr, OnOk};
+ghost use Rattle.std.specs.Prelude.{◌≡◌, ◌⊎◌, ◌∷◌, ◌<◌, ℕ, List, [], Option, None, false, length, map, vec_len, slice_index_or, IfOk, IfErr, OnOk};
 ghost use Rattle.zmeta_args.specs.Texts.{texts_of};
 ghost use Rattle.zknow_merge.specs.Inputs.{input_at};
 ghost use Rattle.zknow_merge.specs.declared.step.Step.{Step};
 ghost use Rattle.zmeta_devices.specs.Devices.{InputDevice, input_device, output_device};
-ghost use Rattle.zmeta_devices.specs.Files.{opened_left};
+ghost use Rattle.zmeta_devices.specs.Files.{opened_left, folder};
 ghost use Rattle.zmeta_devices.specs.declared.input.Input.{Input};
 ghost use Rattle.zmeta_offline.specs.Merged.{streams_at, HasBegun, IsMerging, IsDue, IsStepped, IsMergeFault, MergeResult, DraftResult, MergeFilesResult, AfterMerge};
 
+use crate::saved::{begin_draft, keep};
 use std::alloc::{AllocError, Global};
-use std::io;
-use std::io::{ErrorKind, Read, Write};
+use std::io::Write;
 use zknow_merge::{Merge, Step};
 use zmeta_devices::fault::{Fault, Status, end_done};
 use zmeta_devices::files::{Folder, NamedFile, file_at};
 use zmeta_devices::input::Input;
 use zmeta_devices::output::Output;
+use zmeta_devices::readable::Readable;
 
 /// The octets of one read, and those from which on what was merged is written.
 const PIECE: usize = 65_536;
 
 /// Merges the saved files at these paths into one, which is made at the path `saved`. It holds all their facts.
 ///
-/// If a file is refused, or has other names than those before it, no file is made, and the reason is written on
+/// If a file is refused, or has other names than those before it, each file is as it was, and the reason is written on
 /// `errors`. Of each file a few elements are in memory at a time.
 pub fn merge_named<'a, F: Folder, E: Write>(
     alloc: Global,
@@ -32,8 +33,8 @@ pub fn merge_named<'a, F: Folder, E: Write>(
     saved: &'a str,
     errors: &mut Output<'_, E>,
 ) -> Status
-    ensures { AfterMerge (F.octets files.old) (first.entry.now ∷ texts_of others.now) saved.entry.now
-        (F.made files.old) (F.made files.new)
+    ensures { AfterMerge (first.entry.now ∷ texts_of others.now) saved.entry.now
+        (folder F.octets F.are_one F.steps files.old) (folder F.octets F.are_one F.steps files.new)
         (output_device E.contents errors.old) (output_device E.contents errors.new) result }
 {
     let answer = merge_files(alloc, files, first, others, saved);
@@ -41,6 +42,7 @@ pub fn merge_named<'a, F: Folder, E: Write>(
 }
 
 /// Merges the files, and makes the file at the path `saved`.
+#[tactic(auto, using(crate::proofs::Savings::merged_file))]
 fn merge_files<'a, F: Folder>(
     alloc: Global,
     files: &mut F,
@@ -49,30 +51,26 @@ fn merge_files<'a, F: Folder>(
     saved: &'a str,
 ) -> Result<(), Fault<'a>>
     ensures { MergeFilesResult (streams_at (F.octets files.old) (first.entry.now ∷ texts_of others.now)) saved.entry.now
-        (F.made files.old) (F.made files.new) result }
+        (folder F.octets F.are_one F.steps files.old) (folder F.octets F.are_one F.steps files.new) result }
 {
     let draft = draft_of(alloc, files, first, others, saved)?;
-    match files.keep(saved, draft) {
-        Ok(()) => Ok(()),
-        Err(_) => Err(Fault::Write(saved)),
-    }
+    keep(files, saved, draft)
 }
 
 /// Returns a draft to which the files were merged.
+#[tactic(auto, using(crate::proofs::Savings::of_drafts))]
 fn draft_of<'a, F: Folder>(
     alloc: Global,
-    files: &F,
+    files: &mut F,
     first: &'a str,
     others: &[&'a str],
     saved: &'a str,
 ) -> Result<F::Draft, Fault<'a>>
-    ensures { DraftResult F.Draft.contents (streams_at (F.octets files.now) (first.entry.now ∷ texts_of others.now))
-        saved.entry.now (F.made files.now) result }
+    ensures { DraftResult F.Draft.contents (streams_at (F.octets files.old) (first.entry.now ∷ texts_of others.now))
+        saved.entry.now (folder F.octets F.are_one F.steps files.old) (folder F.octets F.are_one F.steps files.new)
+        result }
 {
-    let mut draft = match files.draft(saved) {
-        Ok(draft) => draft,
-        Err(error) => return Err(fault_of(&error, saved)),
-    };
+    let mut draft = begin_draft(files, saved)?;
     let merged = merge_into(alloc, files, first, others, &mut draft, saved);
     match merged {
         Ok(()) => Ok(draft),
@@ -80,16 +78,6 @@ fn draft_of<'a, F: Folder>(
             files.discard(draft);
             Err(fault)
         }
-    }
-}
-
-/// Returns the fault for a draft that could not be begun.
-fn fault_of<'a>(error: &io::Error, path: &'a str) -> Fault<'a>
-    ensures { (result ≡ Fault.Memory) ⊎ (result ≡ Fault.Write path.entry) }
-{
-    match error.kind() {
-        ErrorKind::OutOfMemory => Fault::Memory,
-        _ => Fault::Write(path),
     }
 }
 
@@ -129,7 +117,7 @@ fn streams_of<'f, 'a, F: Folder>(
 }
 
 /// Merges the saved files of these streams, and writes the merged file to the draft.
-fn merge_streams<'a, R: Read, W: Write>(
+fn merge_streams<'a, R: Readable, W: Write>(
     alloc: Global,
     streams: &mut [Input<'a, R>],
     draft: &mut W,
@@ -152,7 +140,7 @@ fn merge_streams<'a, R: Read, W: Write>(
             Err(fault) => return Err(fault),
         }
     }
-    Err(Fault::Write(saved))
+    Err(Fault::Memory)
 }
 
 /// Returns a piece of `PIECE` octets.
@@ -186,7 +174,7 @@ struct Merging<'a> {
 
 impl<'a> Merging<'a> {
     /// Goes one step on, and returns whether all is merged and written.
-    fn step<R: Read, W: Write>(
+    fn step<R: Readable, W: Write>(
         &mut self,
         streams: &mut [Input<'a, R>],
         draft: &mut W,
@@ -231,7 +219,7 @@ impl<'a> Merging<'a> {
     }
 
     /// Feeds the next piece of a stream to the merge, or its end.
-    fn feed<R: Read>(&mut self, streams: &mut [Input<'a, R>], k: usize) -> Result<(), Fault<'a>>
+    fn feed<R: Readable>(&mut self, streams: &mut [Input<'a, R>], k: usize) -> Result<(), Fault<'a>>
         requires among { k < length streams.old }
         requires room { 0 < vec_len self.old.piece }
         ensures ok { OnOk result ((starts : List InputDevice) (begun held : Option (List ℕ))
@@ -239,7 +227,8 @@ impl<'a> Merging<'a> {
             → (input_at m.inputs k).ended ≡ false
             → IsMerging starts (map (input_device R.remaining) streams.new) begun held self.new) }
         ensures err { IfErr result (λ f. (f ≡ Fault.Memory)
-            ⊎ ((d : Input R) → f ≡ Fault.Read (slice_index_or streams.old k d).path)) }
+            ⊎ ((d : Input R) → (f ≡ Fault.Read (slice_index_or streams.old k d).path)
+            × (R.remaining (slice_index_or streams.old k d).reader ≡ None))) }
         ensures saved { self.new.saved ≡ self.old.saved }
     {
         let count = streams[k].read_some(self.piece.as_mut_slice())?;

@@ -1,9 +1,9 @@
 //! The records of saved files that outgrow memory, by position: the passes behind the first.
-ghost use Rattle.std.specs.Prelude.{◌≡◌, ◌<◌, ℕ, List, Option, length, map, string_bytes, IfOk, IfErr, IfSome, OnOk};
+ghost use Rattle.std.specs.Prelude.{◌≡◌, ◌<◌, ◌+◌, ◌-◌, ℕ, List, Option, length, map, string_bytes, IfOk, IfErr, IfSome, OnOk};
 ghost use Rattle.zknow_runs.specs.Rows.{StandAt};
 ghost use Rattle.zmeta_args.specs.Texts.{texts_of};
 ghost use Rattle.zmeta_devices.specs.Devices.{output_device};
-ghost use Rattle.zmeta_offline.specs.Rows.{path_at, IsReader, IsReadFault, IsReadFaultAmong, IsKept, HasRead, PutPieceResult};
+ghost use Rattle.zmeta_offline.specs.Rows.{path_at, IsReader, IsReadFault, EndsBefore, IsUnknownTo, IsNextFault, IsKept, HasRead, PutPieceResult};
 ghost use Rattle.zmeta_offline.specs.Rows.{WriteRowsResult, MeasureRowsResult};
 
 use std::alloc::{AllocError, Global};
@@ -57,6 +57,7 @@ fn piece_for(runs: usize) -> usize
 }
 
 /// Returns at least so many octets of the file at a path, behind an offset. `Read` if it has fewer there.
+#[tactic(auto, using(crate::proofs::Filling::unread, crate::proofs::Filling::unread_behind, crate::proofs::Filling::read_short))]
 fn octets_at<'a, F: Folder>(
     alloc: Global,
     files: &F,
@@ -65,7 +66,8 @@ fn octets_at<'a, F: Folder>(
     wanted: usize,
 ) -> Result<Vec<u8>, Fault<'a>>
     ensures stand { IfOk result (λ v. StandAt (F.octets files.now path.entry.now) offset v.items) }
-    ensures err { IfErr result (IsReadFault path.entry.now) }
+    ensures err { IfErr result (IsReadFault (EndsBefore (F.octets files.now path.entry.now) (offset + wanted))
+        path.entry.now) }
 {
     let Ok(file) = files.open_at(path, offset) else {
         return Err(Fault::Read(path));
@@ -95,7 +97,9 @@ fn octets_of(window: &Window, file: u32, offset: u64) -> Option<&[u8]>
 }
 
 /// Returns how many octets are wanted at most.
-fn most_of(wanted: Wanted) -> usize {
+fn most_of(wanted: Wanted) -> usize
+    ensures { result ≡ wanted.end - wanted.begin }
+{
     wanted.end.saturating_sub(wanted.begin) as usize
 }
 
@@ -153,12 +157,14 @@ impl<'a, 'p> Reader<'a, 'p> {
     }
 
     /// Reads octets where some are wanted: a piece at least, as many as the next record has at least, or all if there
-    /// are fewer.
+    /// are fewer. `Read` if the file has fewer, or cannot be read.
+    #[tactic(auto, using(crate::proofs::Filling::less_wanted))]
     fn fill<F: Folder>(&mut self, files: &F, path: &'a str, wanted: Wanted) -> Result<(), Fault<'a>>
         requires { path.now ≡ path_at (texts_of self.old.paths.now) wanted.file }
         ensures ok { OnOk result (IsReader (F.octets files.now) (texts_of self.old.paths.now) self.old
             → IsReader (F.octets files.now) (texts_of self.old.paths.now) self.new) }
-        ensures err { IfErr result (IsReadFault path.entry.now) }
+        ensures err { IfErr result (IsReadFault (EndsBefore (F.octets files.now path.entry.now)
+            (wanted.begin + (wanted.end - wanted.begin))) path.entry.now) }
     {
         let size = self.least.max(self.piece).min(most_of(wanted));
         let octets = octets_at(self.alloc, files, path, wanted.begin, size)?;
@@ -180,10 +186,12 @@ impl<'a, 'p> Reader<'a, 'p> {
     fn give(&mut self, path: &'a str, wanted: Wanted, rows: &mut Rows) -> Result<(), Fault<'a>>
         ensures ok { OnOk result ((octets : List ℕ → Option (List ℕ)) (paths : List (List ℕ))
             → HasRead octets paths wanted self.old rows.old self.new rows.new) }
-        ensures err { IfErr result (IsReadFault path.entry.now) }
+        ensures err { IfErr result (λ f. (octets : List ℕ → Option (List ℕ)) (paths : List (List ℕ))
+            → IsReadFault (IsUnknownTo octets paths wanted self.old rows.old) path.entry.now f) }
     {
+        // Some were read, if none were kept.
         let Some(octets) = self.kept(wanted) else {
-            return Err(Fault::Read(path));
+            return Err(Fault::Memory);
         };
         let count = octets.len();
         match rows.read(octets)? {
@@ -211,7 +219,8 @@ impl<'a, 'p> Reader<'a, 'p> {
     ) -> Result<(), Fault<'a>>
         ensures ok { OnOk result (HasRead (F.octets files.now) (texts_of self.old.paths.now) wanted self.old rows.old
             self.new rows.new) }
-        ensures err { IfErr result (IsReadFaultAmong (texts_of self.old.paths.now)) }
+        ensures err { IfErr result (IsNextFault (F.octets files.now) (texts_of self.old.paths.now) wanted self.old
+            rows.old) }
     {
         let Some(path) = self.path(wanted.file) else {
             return Err(Fault::Memory);

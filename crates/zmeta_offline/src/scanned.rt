@@ -17,13 +17,13 @@ use crate::merged::piece_of;
 use crate::names::{first_unknown, is_picked};
 use bytes::Bytes;
 use std::alloc::{AllocError, Global};
-use std::io::Read;
 use zknow::{Knowledge, Names, load};
 use zknow_merge::{FactKind, FactPlace, Scan, ScanStep, first_fact};
 use zknow_runs::{Chosen, Run, RunList};
 use zmeta_devices::fault::Fault;
 use zmeta_devices::files::{Folder, file_at};
 use zmeta_devices::input::Input;
+use zmeta_devices::readable::Readable;
 
 /// What is noted of facts beside where records stand.
 #[derive(Clone, Copy)]
@@ -238,7 +238,7 @@ fn scan_other<'a, F: Folder>(
 }
 
 /// Reads the names of a file of which nothing was read.
-fn read_names<'a, R: Read>(
+fn read_names<'a, R: Readable>(
     file: &mut Input<'a, R>,
     piece: &mut [u8],
     scan: &mut Scan,
@@ -260,7 +260,7 @@ fn read_names<'a, R: Read>(
 }
 
 /// Notes what the facts of the file of this number say of chosen catalogues, up to its end.
-fn mark_facts<'a, R: Read>(
+fn mark_facts<'a, R: Readable>(
     alloc: Global,
     file: &mut Input<'a, R>,
     piece: &mut [u8],
@@ -292,7 +292,7 @@ fn mark_facts<'a, R: Read>(
 }
 
 /// Goes on to the next element of a file, or to its end.
-fn go_on<'a, R: Read>(
+fn go_on<'a, R: Readable>(
     file: &mut Input<'a, R>,
     piece: &mut [u8],
     scan: &mut Scan,
@@ -318,7 +318,7 @@ fn go_on<'a, R: Read>(
 }
 
 /// Feeds the next piece of a file to its scan, or its end.
-fn feed<'a, R: Read>(
+fn feed<'a, R: Readable>(
     file: &mut Input<'a, R>,
     piece: &mut [u8],
     scan: &mut Scan,

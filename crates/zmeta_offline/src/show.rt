@@ -7,7 +7,7 @@ ghost use Rattle.zmeta_devices.specs.Devices.{input_device, output_device, strea
 
 use crate::digits::decode;
 use std::alloc::Global;
-use std::io::{Read, Write};
+use std::io::Write;
 use zapdu::from_element;
 use zapdu::laws::{one_refusal, one_value};
 use zapdu_lines::print_apdu;
@@ -16,12 +16,13 @@ use zber::{Framer, MESSAGE_LIMIT};
 use zmeta_devices::fault::{Fault, Status, end_done};
 use zmeta_devices::input::Input;
 use zmeta_devices::output::Output;
+use zmeta_devices::readable::Readable;
 
 /// Prints the APDUs of the octets whose hexadecimal digits the input has. If it stops before the end of the
 /// octets, it writes the fault on `errors`.
 ///
 /// The text before a fault is printed. If no memory is found, nothing is printed.
-pub fn show<'a, R: Read, W: Write, E: Write>(
+pub fn show<'a, R: Readable, W: Write, E: Write>(
     alloc: Global,
     input: &mut Input<'a, R>,
     output: &mut Output<'a, W>,
@@ -43,7 +44,7 @@ pub fn one_showing()
     one_refusal();
 }
 
-fn show_text<'a, R: Read, W: Write>(
+fn show_text<'a, R: Readable, W: Write>(
     alloc: Global,
     input: &mut Input<'a, R>,
     output: &mut Output<'a, W>,

@@ -9,8 +9,9 @@ pub returns-in_err-form : goal.returns-in_err-form
 returns-in_err-form g c others same marked view of =
     let p = err_from_is_err_and c.from_residual.result c.from_residual.ensures.1 in
     form_refused view (g.F.Folder.octets c.args.files.now) c.args.first.now others
-    (output_device g.W.Write.contents c.args.output.now) c.args.marked marked (texts_of c.args.paths.now) same
-    c.in_err-form.field-0.0 p.0 c.from_residual.result p.1 p.2 c.in_err-form.ensures
+    (output_device g.W.Write.contents c.args.output.now) c.args.marked marked (texts_of c.args.paths.now)
+    c.as_slice.result.now c.args.marked.chosen same c.as_slice.ensures.value refl c.in_err-form.field-0.0 p.0
+    c.from_residual.result p.1 p.2 c.in_err-form.ensures
 
 pub returns-in_err-last : goal.returns-in_err-last
 returns-in_err-last g c others same marked view of =
@@ -54,7 +55,10 @@ returns-then-not-is_as_told g c others same marked view of =
       head =
           head_by view octets first others old m marked c.in_ok-form.form c.new-head.result.items
           c.write_head.new.out.items c.new-head.ensures.items c.in_ok-write_head.ensures;
-    }) c.args.first refl
+    }) c.args.first refl (λ told.
+    let yes = c.is_as_told.ensures.1 told in
+    let no = c.if-not-is_as_told.true in
+    absurd cc)
 
 pub returns : goal.returns
 returns g c others same marked view of =

@@ -6,6 +6,6 @@ use Rattle.zmeta_offline.proofs.merged.merge_streams.Given as goal
 
 abbrev pub invariant-loop : goal.invariant-loop
 invariant-loop g l =
-    IsMerging (map (input_device g.R.Read.remaining) l.initial.streams) (map (input_device g.R.Read.remaining) l.streams)
+    IsMerging (map (input_device g.R.Readable.remaining) l.initial.streams) (map (input_device g.R.Readable.remaining) l.streams)
     (g.W.Write.contents l.initial.draft) (g.W.Write.contents l.draft) l.merging
     × (l.merging.saved.now ≡ l.saved)

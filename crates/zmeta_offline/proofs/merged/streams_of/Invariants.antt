@@ -8,5 +8,5 @@ use Rattle.zmeta_offline.proofs.merged.streams_of.Given as goal
 
 abbrev pub invariant-loop-path : goal.invariant-loop-path
 invariant-loop-path g l =
-    map (input_device (λ r. opened_left g.F.File.Read.remaining (g.F.Folder.octets r.files.now r.path.now) r.file)) l.streams.items
+    map (input_device (λ r. opened_left g.F.File.Readable.remaining (g.F.Folder.octets r.files.now r.path.now) r.file)) l.streams.items
     ≡ streams_at (g.F.Folder.octets l.files) (l.first ∷ texts_of (take l.path-index l.others))

@@ -2,8 +2,8 @@ use Rattle.std.proofs.Common.{refl, map, subst}
 use Rattle.std.specs.Prelude.{string_bytes}
 use Rattle.std.proofs.lemmas.Result.{err_from_is_err_and}
 use Rattle.zmeta_args.specs.Texts.{texts_of}
-use Rattle.zmeta_offline.specs.Rows.{IsReadFaultAmong, HasRead}
-use Rattle.zmeta_offline.proofs.Measuring.{begun, turned, read, ended, missed}
+use Rattle.zmeta_offline.specs.Rows.{IsNextFault, HasRead}
+use Rattle.zmeta_offline.proofs.Measuring.{begun, turned, read, next_missed, ended, missed}
 use Rattle.zmeta_offline.proofs.rows.measure_rows.Goals as goal
 
 pub loop-init : goal.loop-init
@@ -25,11 +25,19 @@ returns-in_default g c =
 
 pub returns-in_err-read_next : goal.returns-in_err-read_next
 returns-in_err-read_next g c =
+    let octets = g.F.Folder.octets c.args.files.now in
+    let paths = texts_of c.args.paths.now in
+    let shown = map string_bytes c.args.shown.items in
     let p = err_from_is_err_and c.from_residual-in_err-read_next.result c.from_residual-in_err-read_next.ensures.1 in
-    missed (g.F.Folder.octets c.args.files.now) (texts_of c.args.paths.now) c.args.runs.now c.args.chosen.now
-    (map string_bytes c.args.shown.items) c.in_err-read_next.field-0.0 p.0 c.from_residual-in_err-read_next.result
-    p.1 p.2 (subst (λ z. IsReadFaultAmong z c.in_err-read_next.field-0.0) c.loop.invariant.windows.of
-    c.in_err-read_next.ensures.err)
+    missed octets paths c.args.runs.now c.args.chosen.now shown c.in_err-read_next.field-0.0 p.0
+    c.from_residual-in_err-read_next.result
+    p.1 p.2
+    (next_missed octets paths c.args.runs.now c.args.chosen.now shown c.in-Some.wanted c.loop.reader c.wanted.new.self
+    c.in_err-read_next.field-0.0 c.in-Some.ensures.some
+    (subst (λ z. IsNextFault octets z c.in-Some.wanted c.loop.reader c.wanted.new.self c.in_err-read_next.field-0.0)
+    c.loop.invariant.windows.of c.in_err-read_next.ensures.err)
+    (turned octets paths c.args.runs.now c.args.chosen.now shown c.loop.reader c.loop.rows c.wanted.new.self
+    c.wanted.ensures.holds c.loop.invariant))
 
 pub loop-preserved : goal.loop-preserved
 loop-preserved g c =

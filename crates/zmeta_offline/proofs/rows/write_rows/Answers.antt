@@ -3,8 +3,8 @@ use Rattle.std.proofs.lemmas.Result.{err_from_is_err_and}
 use Rattle.zmeta_args.specs.Texts.{texts_of}
 use Rattle.zmeta_devices.specs.Devices.{output_device}
 use Rattle.zmeta_devices.specs.declared.fault.Fault.TheVariants.{Memory}
-use Rattle.zmeta_offline.specs.Rows.{IsReadFaultAmong, HasRead}
-use Rattle.zmeta_offline.proofs.Writing.{IsGoing, begun, turned, read, put, ended, cut_off, missed_as, stopped_as}
+use Rattle.zmeta_offline.specs.Rows.{IsNextFault, HasRead}
+use Rattle.zmeta_offline.proofs.Writing.{IsGoing, begun, turned, read, put, next_missed, ended, cut_off, missed_as, stopped_as}
 use Rattle.zmeta_offline.proofs.rows.write_rows.Goals as goal
 
 pub loop-init : goal.loop-init
@@ -36,13 +36,19 @@ returns-in_default g c =
 
 pub returns-in_err-read_next : goal.returns-in_err-read_next
 returns-in_err-read_next g c =
+    let octets = g.F.Folder.octets c.args.files.now in
+    let paths = texts_of c.args.paths.now in
+    let start = output_device g.W.Write.contents c.args.output.now in
+    let now = output_device g.W.Write.contents c.loop.output in
     let p = err_from_is_err_and c.from_residual-in_err-read_next.result c.from_residual-in_err-read_next.ensures.1 in
-    missed_as (g.F.Folder.octets c.args.files.now) (texts_of c.args.paths.now) c.args.runs.now c.args.taking
-    (output_device g.W.Write.contents c.args.output.now) c.row_laws.ensures
-    (output_device g.W.Write.contents c.loop.output) c.loop.reader c.loop.rows c.in_err-read_next.field-0.0 p.0
-    c.from_residual-in_err-read_next.result p.1 p.2
-    (subst (λ z. IsReadFaultAmong z c.in_err-read_next.field-0.0) c.loop.invariant.windows.of
-    c.in_err-read_next.ensures.err)
+    missed_as octets paths c.args.runs.now c.args.taking start c.row_laws.ensures now c.loop.reader c.loop.rows
+    c.in_err-read_next.field-0.0 p.0 c.from_residual-in_err-read_next.result p.1 p.2
+    (next_missed octets paths c.args.runs.now c.args.taking start now c.in-Some.wanted c.loop.reader c.wanted.new.self
+    c.in_err-read_next.field-0.0 c.in-Some.ensures.some
+    (subst (λ z. IsNextFault octets z c.in-Some.wanted c.loop.reader c.wanted.new.self c.in_err-read_next.field-0.0)
+    c.loop.invariant.windows.of c.in_err-read_next.ensures.err)
+    (turned octets paths c.args.runs.now c.args.taking start now c.loop.reader c.loop.rows c.wanted.new.self
+    c.wanted.ensures.holds c.loop.invariant))
     c.loop.invariant
 
 pub returns-in_err-put_piece : goal.returns-in_err-put_piece

@@ -10,14 +10,14 @@ pub returns-in_err-count-clause-err : goal.returns-in_err-count-clause-err
 returns-in_err-count-clause-err g c =
     let p = err_from_is_err_and c.from_residual.result c.from_residual.ensures.1 in
     if_err c.from_residual.result _ p.0 c.in_err-count.field-0.0 p.1 p.2 (λ octets path found s.
-    read_refused octets path (input_device g.R.Read.remaining c.args.file.now) found c.args.scan.now
-    c.in_err-count.field-0.0 c.args.file.now.path s refl c.in_err-count.ensures.err.0)
+    read_refused octets path (input_device g.R.Readable.remaining c.args.file.now) found c.args.scan.now
+    c.in_err-count.field-0.0 c.args.file.now.path s refl c.in_err-count.ensures.err.0 c.in_err-count.ensures.unknown)
 
 pub returns-then-count-eq0-clause-ok : goal.returns-then-count-eq0-clause-ok
 returns-then-count-eq0-clause-ok g c = λ octets path found s unended.
-    let f = input_device g.R.Read.remaining in
-    let old = g.R.Read.remaining c.args.file.now.reader in
-    let new = g.R.Read.remaining c.read_some.new.self.reader in
+    let f = input_device g.R.Readable.remaining in
+    let old = g.R.Readable.remaining c.args.file.now.reader in
+    let new = g.R.Readable.remaining c.read_some.new.self.reader in
     let none : Consumes old new [] =
     subst (λ (n : ℕ). Consumes old new (take n c.read_some.new.piece)) c.if-count-eq0.true
     c.in_ok-count.ensures.taken in
@@ -32,7 +32,7 @@ returns-in_err-feed-clause-err g c =
 
 pub returns-clause-ok : goal.returns-clause-ok
 returns-clause-ok g c = λ octets path found s unended.
-    let f = input_device g.R.Read.remaining in
+    let f = input_device g.R.Readable.remaining in
     scan_fed octets path (f c.args.file.now) (f c.read_some.new.self) found c.args.scan.now c.feed.new.self
     (take c.in_ok-count.count c.read_some.new.piece) s unended
     (ap (λ (b : Bor (List ℕ)). b.now) c.in_ok-count.ensures.path) c.in_ok-count.ensures.taken

@@ -20,41 +20,41 @@ returns-in_err-feed-in-Need-clause-err g c =
     let p = err_from_is_err_and given.result given.ensures.1 in
     if_err given.result _ p.0 c.in_err-feed-in-Need.field-0.0 p.1 p.2 (λ octets path found s.
     let h = c.loop.invariant.0 octets path found s in
-    let n = need_read octets path (input_device g.R.Read.remaining c.loop.file) c.loop.scan c.next.new.self found h
+    let n = need_read octets path (input_device g.R.Readable.remaining c.loop.file) c.loop.scan c.next.new.self found h
     c.in_ok-next.field-0 c.in-Need.is (c.in_ok-next.ensures.ok h.input found h.scan) in
     c.in_err-feed-in-Need.ensures.err octets path found n.0)
 
 pub returns-in-Names-clause-ok : goal.returns-in-Names-clause-ok
 returns-in-Names-clause-ok g c = λ octets path found s.
     let h = c.loop.invariant.0 octets path found s in
-    names_read octets path (input_device g.R.Read.remaining c.loop.file) c.loop.scan c.next.new.self found
+    names_read octets path (input_device g.R.Readable.remaining c.loop.file) c.loop.scan c.next.new.self found
     c.in_ok-next.field-0 h c.in-Names.is (c.in_ok-next.ensures.ok h.input found h.scan)
 
 pub returns-in-Fact-clause-ok : goal.returns-in-Fact-clause-ok
 returns-in-Fact-clause-ok g c = λ octets path found s.
     let h = c.loop.invariant.0 octets path found s in
-    fact_read octets path (input_device g.R.Read.remaining c.loop.file) c.loop.scan c.next.new.self found
+    fact_read octets path (input_device g.R.Readable.remaining c.loop.file) c.loop.scan c.next.new.self found
     c.in_ok-next.field-0 h c.in-Fact.place c.in-Fact.is (c.in_ok-next.ensures.ok h.input found h.scan)
 
 pub returns-in-Refused-clause-err : goal.returns-in-Refused-clause-err
 returns-in-Refused-clause-err g c = λ octets path found s.
     let h = c.loop.invariant.0 octets path found s in
     subst (λ (f : Fault). IsFaultAt octets path f) (sym c.of_load.ensures)
-    (scan_refused octets path (input_device g.R.Read.remaining c.loop.file) c.loop.scan c.next.new.self found h
+    (scan_refused octets path (input_device g.R.Readable.remaining c.loop.file) c.loop.scan c.next.new.self found h
     c.in_ok-next.field-0 c.in-Refused.fault c.loop.file.path c.in-Refused.is refl
     (c.in_ok-next.ensures.ok h.input found h.scan))
 
 pub returns-in-Done-clause-ok : goal.returns-in-Done-clause-ok
 returns-in-Done-clause-ok g c = λ octets path found s.
     let h = c.loop.invariant.0 octets path found s in
-    end_read octets path (input_device g.R.Read.remaining c.loop.file) c.loop.scan c.next.new.self found
+    end_read octets path (input_device g.R.Readable.remaining c.loop.file) c.loop.scan c.next.new.self found
     c.in_ok-next.field-0 h c.in-Done.is (c.in_ok-next.ensures.ok h.input found h.scan)
 
 pub loop-preserved : goal.loop-preserved
 loop-preserved g c = (
   λ octets path found s.
       let h = c.loop.invariant.0 octets path found s in
-      let n = need_read octets path (input_device g.R.Read.remaining c.loop.file) c.loop.scan c.next.new.self found h
+      let n = need_read octets path (input_device g.R.Readable.remaining c.loop.file) c.loop.scan c.next.new.self found h
       c.in_ok-next.field-0 c.in-Need.is (c.in_ok-next.ensures.ok h.input found h.scan) in
       c.in_ok-feed-in-Need.ensures.ok octets path found n.0 n.1,
   c.in_ok-feed-in-Need.ensures.path ∙ c.loop.invariant.1,

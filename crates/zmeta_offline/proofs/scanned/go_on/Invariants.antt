@@ -8,6 +8,6 @@ use Rattle.zmeta_offline.proofs.scanned.go_on.Given as goal
 abbrev pub invariant-loop : goal.invariant-loop
 invariant-loop g l =
     ((octets : List ℕ → Option (List ℕ)) (path : List ℕ) (found : Found)
-    → IsScanning octets path (input_device g.R.Read.remaining l.initial.file) found l.initial.scan
-    → IsScanning octets path (input_device g.R.Read.remaining l.file) found l.scan)
+    → IsScanning octets path (input_device g.R.Readable.remaining l.initial.file) found l.initial.scan
+    → IsScanning octets path (input_device g.R.Readable.remaining l.file) found l.scan)
     × (l.file.path ≡ l.initial.file.path)

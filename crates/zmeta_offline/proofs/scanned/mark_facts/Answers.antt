@@ -25,7 +25,7 @@ returns-in_err-note-in-Fact-clause-err g c =
 pub returns-in-End-clause-ok : goal.returns-in-End-clause-ok
 returns-in-End-clause-ok g c = λ octets path own theirs count s m.
     let h = c.loop.invariant octets path own s in
-    let now = input_device g.R.Read.remaining c.go_on.new.file in
+    let now = input_device g.R.Readable.remaining c.go_on.new.file in
     let end : AfterEnd octets path (Some (own, h.0)) =
     subst (λ (r : Reached). AfterReached octets path now (Some (own, h.0)) r c.go_on.new.scan) c.in-End.is
     (c.in_ok-go_on.ensures.ok octets path (Some (own, h.0)) h.1) in
@@ -34,7 +34,7 @@ returns-in-End-clause-ok g c = λ octets path own theirs count s m.
 pub loop-preserved : goal.loop-preserved
 loop-preserved g c = λ octets path own s.
     let h = c.loop.invariant octets path own s in
-    let now = input_device g.R.Read.remaining c.go_on.new.file in
+    let now = input_device g.R.Readable.remaining c.go_on.new.file in
     let after : AfterFact octets path now (Some (own, h.0)) c.in-Fact.place c.go_on.new.scan =
     subst (λ (r : Reached). AfterReached octets path now (Some (own, h.0)) r c.go_on.new.scan) c.in-Fact.is
     (c.in_ok-go_on.ensures.ok octets path (Some (own, h.0)) h.1) in (

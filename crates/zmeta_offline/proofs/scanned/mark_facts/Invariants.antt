@@ -8,8 +8,8 @@ use Rattle.zmeta_offline.proofs.scanned.mark_facts.Given as goal
 abbrev pub invariant-loop : goal.invariant-loop
 invariant-loop g l =
     (octets : List ℕ → Option (List ℕ)) (path : List ℕ) (own : List (List ℕ))
-    → IsScanning octets path (input_device g.R.Read.remaining l.initial.file) (Some (own, [])) l.initial.scan
+    → IsScanning octets path (input_device g.R.Readable.remaining l.initial.file) (Some (own, [])) l.initial.scan
     → (facts : List Fact)
-    × IsScanning octets path (input_device g.R.Read.remaining l.file) (Some (own, facts)) l.scan
+    × IsScanning octets path (input_device g.R.Readable.remaining l.file) (Some (own, facts)) l.scan
     × ((theirs : List (List Fact)) → l.number ≡ length theirs
     → AreMarks l.first theirs own [] l.initial.marks → AreMarks l.first theirs own facts l.marks)

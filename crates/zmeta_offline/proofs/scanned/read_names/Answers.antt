@@ -14,7 +14,7 @@ returns-in_err-go_on-clause-err g c =
 
 pub returns-in-Names-clause-ok : goal.returns-in-Names-clause-ok
 returns-in-Names-clause-ok g c = λ octets path s.
-    let now = input_device g.R.Read.remaining c.go_on.new.file in
+    let now = input_device g.R.Readable.remaining c.go_on.new.file in
     subst (λ (r : Reached). AfterReached octets path now None r c.go_on.new.scan)
     c.in-Names.is (c.in_ok-go_on.ensures.ok octets path None s)
 

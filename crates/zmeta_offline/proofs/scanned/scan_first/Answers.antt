@@ -14,7 +14,7 @@ pub returns-in_err-read_names-clause-err : goal.returns-in_err-read_names-clause
 returns-in_err-read_names-clause-err g c =
     let p = err_from_is_err_and c.from_residual.result c.from_residual.ensures.1 in
     let octets = g.F.Folder.octets c.args.files.now in
-    let f = input_device (λ r. opened_left g.F.File.Read.remaining (g.F.Folder.octets r.files.now r.path.now) r.file) in
+    let f = input_device (λ r. opened_left g.F.File.Readable.remaining (g.F.Folder.octets r.files.now r.path.now) r.file) in
     let begun = scan_begun octets c.args.path.now (f c.file_at-file.result) c.new-scan.result
     (ap (λ (b : Bor (List ℕ)). b.now) c.file_at-file.ensures.path) c.file_at-file.ensures.octets c.new-scan.ensures in
     if_err c.from_residual.result _ p.0 c.in_err-read_names.field-0.0 p.1 p.2
@@ -29,7 +29,7 @@ pub returns-in_err-mark_facts-clause-err : goal.returns-in_err-mark_facts-clause
 returns-in_err-mark_facts-clause-err g c =
     let p = err_from_is_err_and c.from_residual-in_err-mark_facts.result c.from_residual-in_err-mark_facts.ensures.1 in
     let octets = g.F.Folder.octets c.args.files.now in
-    let f = input_device (λ r. opened_left g.F.File.Read.remaining (g.F.Folder.octets r.files.now r.path.now) r.file) in
+    let f = input_device (λ r. opened_left g.F.File.Readable.remaining (g.F.Folder.octets r.files.now r.path.now) r.file) in
     let begun = scan_begun octets c.args.path.now (f c.file_at-file.result) c.new-scan.result
     (ap (λ (b : Bor (List ℕ)). b.now) c.file_at-file.ensures.path) c.file_at-file.ensures.octets c.new-scan.ensures in
     let names = c.in_ok-read_names.ensures.ok octets c.args.path.now begun in
@@ -40,7 +40,7 @@ pub returns-clause-ok : goal.returns-clause-ok
 returns-clause-ok g c =
     let octets = g.F.Folder.octets c.args.files.now in
     let path = c.args.path.now in
-    let f = input_device (λ r. opened_left g.F.File.Read.remaining (g.F.Folder.octets r.files.now r.path.now) r.file) in
+    let f = input_device (λ r. opened_left g.F.File.Readable.remaining (g.F.Folder.octets r.files.now r.path.now) r.file) in
     let begun = scan_begun octets path (f c.file_at-file.result) c.new-scan.result
     (ap (λ (b : Bor (List ℕ)). b.now) c.file_at-file.ensures.path) c.file_at-file.ensures.octets c.new-scan.ensures in
     let names = c.in_ok-read_names.ensures.ok octets path begun in

@@ -13,7 +13,7 @@ returns-in_err-read_names-clause-err g c =
     let p = err_from_is_err_and c.from_residual.result c.from_residual.ensures.1 in
     let octets = g.F.Folder.octets c.args.files.now in
     let path = c.args.path.now in
-    let f = input_device (λ r. opened_left g.F.File.Read.remaining (g.F.Folder.octets r.files.now r.path.now) r.file) in
+    let f = input_device (λ r. opened_left g.F.File.Readable.remaining (g.F.Folder.octets r.files.now r.path.now) r.file) in
     let begun = scan_begun octets path (f c.file_at-file.result) c.new-scan.result
     (ap (λ (b : Bor (List ℕ)). b.now) c.file_at-file.ensures.path) c.file_at-file.ensures.octets c.new-scan.ensures in
     if_err c.from_residual.result _ p.0 c.in_err-read_names.field-0.0 p.1 p.2 (λ only paths count s.
@@ -25,7 +25,7 @@ returns-in_err-mark_facts-clause-err g c =
     let p = err_from_is_err_and c.from_residual-in_err-mark_facts.result c.from_residual-in_err-mark_facts.ensures.1 in
     let octets = g.F.Folder.octets c.args.files.now in
     let path = c.args.path.now in
-    let f = input_device (λ r. opened_left g.F.File.Read.remaining (g.F.Folder.octets r.files.now r.path.now) r.file) in
+    let f = input_device (λ r. opened_left g.F.File.Readable.remaining (g.F.Folder.octets r.files.now r.path.now) r.file) in
     let begun = scan_begun octets path (f c.file_at-file.result) c.new-scan.result
     (ap (λ (b : Bor (List ℕ)). b.now) c.file_at-file.ensures.path) c.file_at-file.ensures.octets c.new-scan.ensures in
     let names = c.in_ok-read_names.ensures.ok octets path begun in
@@ -38,7 +38,7 @@ returns-then-same-clause-ok g c = λ only paths count s.
     let octets = g.F.Folder.octets c.args.files.now in
     let path = c.args.path.now in
     let first = c.args.first.now in
-    let f = input_device (λ r. opened_left g.F.File.Read.remaining (g.F.Folder.octets r.files.now r.path.now) r.file) in
+    let f = input_device (λ r. opened_left g.F.File.Readable.remaining (g.F.Folder.octets r.files.now r.path.now) r.file) in
     let begun = scan_begun octets path (f c.file_at-file.result) c.new-scan.result
     (ap (λ (b : Bor (List ℕ)). b.now) c.file_at-file.ensures.path) c.file_at-file.ensures.octets c.new-scan.ensures in
     let names = c.in_ok-read_names.ensures.ok octets path begun in
@@ -54,7 +54,7 @@ returns-clause-err g c = λ only paths count s.
     let octets = g.F.Folder.octets c.args.files.now in
     let path = c.args.path.now in
     let first = c.args.first.now in
-    let f = input_device (λ r. opened_left g.F.File.Read.remaining (g.F.Folder.octets r.files.now r.path.now) r.file) in
+    let f = input_device (λ r. opened_left g.F.File.Readable.remaining (g.F.Folder.octets r.files.now r.path.now) r.file) in
     let begun = scan_begun octets path (f c.file_at-file.result) c.new-scan.result
     (ap (λ (b : Bor (List ℕ)). b.now) c.file_at-file.ensures.path) c.file_at-file.ensures.octets c.new-scan.ensures in
     let names = c.in_ok-read_names.ensures.ok octets path begun in

@@ -10,13 +10,13 @@ use Rattle.zmeta_offline.proofs.merged.Merging.feed.Goals as goal
 
 pub returns-then-count-eq0-clause-ok : goal.returns-then-count-eq0-clause-ok
 returns-then-count-eq0-clause-ok g c = λ starts begun held m unended.
-    let f = input_device g.R.Read.remaining in
+    let f = input_device g.R.Readable.remaining in
     let old = get_or c.args.streams.now c.args.k c.index-streams-k.result in
     let lt : c.args.k < length m.inputs = omega (arith, c.requires.among, m.size, m.same, map_length f c.args.streams.now) in
-    let part : Consumes (g.R.Read.remaining old.reader) (g.R.Read.remaining c.read_some.new.self.reader)
+    let part : Consumes (g.R.Readable.remaining old.reader) (g.R.Readable.remaining c.read_some.new.self.reader)
     (take c.in_ok-count.count c.read_some.new.piece) = c.in_ok-count.ensures.taken in
-    let none : Consumes (g.R.Read.remaining old.reader) (g.R.Read.remaining c.read_some.new.self.reader) [] =
-    subst (λ n. Consumes (g.R.Read.remaining old.reader) (g.R.Read.remaining c.read_some.new.self.reader)
+    let none : Consumes (g.R.Readable.remaining old.reader) (g.R.Readable.remaining c.read_some.new.self.reader) [] =
+    subst (λ n. Consumes (g.R.Readable.remaining old.reader) (g.R.Readable.remaining c.read_some.new.self.reader)
     (take n c.read_some.new.piece)) c.if-count-eq0.true part in
     record {
       inputs = changed_at c.args.k at_end m.inputs;
@@ -35,11 +35,11 @@ returns-then-count-eq0-clause-ok g c = λ starts begun held m unended.
 
 pub returns-clause-ok : goal.returns-clause-ok
 returns-clause-ok g c = λ starts begun held m unended.
-    let f = input_device g.R.Read.remaining in
+    let f = input_device g.R.Readable.remaining in
     let old = get_or c.args.streams.now c.args.k c.index-streams-k.result in
     let lt : c.args.k < length m.inputs = omega (arith, c.requires.among, m.size, m.same, map_length f c.args.streams.now) in
     let piece = take c.in_ok-count.count c.deref.result.now in
-    let part : Consumes (g.R.Read.remaining old.reader) (g.R.Read.remaining c.read_some.new.self.reader)
+    let part : Consumes (g.R.Readable.remaining old.reader) (g.R.Readable.remaining c.read_some.new.self.reader)
     (take c.in_ok-count.count c.read_some.new.piece) = c.in_ok-count.ensures.taken in
     let sized : length c.read_some.new.piece ≡ c.args.self.now.piece.len =
     c.in_ok-count.ensures.room ∙ c.as_mut_slice.ensures.len in
@@ -47,8 +47,8 @@ returns-clause-ok g c = λ starts begun held m unended.
     let rest = drop (length c.read_some.new.piece) c.args.self.now.piece.items in
     c.deref.ensures.value ∙ ap (λ n. take n (c.read_some.new.piece ++ rest)) (sym sized)
     ∙ take-append_seam c.read_some.new.piece rest in
-    let more : Consumes (g.R.Read.remaining old.reader) (g.R.Read.remaining c.read_some.new.self.reader) piece =
-    subst (λ l. Consumes (g.R.Read.remaining old.reader) (g.R.Read.remaining c.read_some.new.self.reader)
+    let more : Consumes (g.R.Readable.remaining old.reader) (g.R.Readable.remaining c.read_some.new.self.reader) piece =
+    subst (λ l. Consumes (g.R.Readable.remaining old.reader) (g.R.Readable.remaining c.read_some.new.self.reader)
     (take c.in_ok-count.count l)) (sym whole) part in
     record {
       inputs = changed_at c.args.k (fed piece) m.inputs;

@@ -6,7 +6,7 @@ use Rattle.zmeta_offline.proofs.merged.Merging.step.Goals.{then-len-ge-PIECE+in_
 
 pub feed-requires-clause-among : goal.feed-requires-clause-among
 feed-requires-clause-among g c =
-    let f = input_device g.R.Read.remaining in
+    let f = input_device g.R.Readable.remaining in
     let r = c.requires in
     let lt = needed r.0 (map f c.args.streams.now) r.1 (g.W.Write.contents c.args.draft.now) c.advance.new.self _
     (c.in_ok-advance.ensures.ok r.0 (map f c.args.streams.now) r.1 (g.W.Write.contents c.args.draft.now) r.2) c.in-Need.k c.in-Need.is in
@@ -14,23 +14,23 @@ feed-requires-clause-among g c =
 
 pub feed-requires-clause-room : goal.feed-requires-clause-room
 feed-requires-clause-room g c =
-    let f = input_device g.R.Read.remaining in
+    let f = input_device g.R.Readable.remaining in
     let r = c.requires in
     (c.in_ok-advance.ensures.ok r.0 (map f c.args.streams.now) r.1 (g.W.Write.contents c.args.draft.now) r.2).merging.room
 
 pub returns-in-Err-clause-err : goal.returns-in-Err-clause-err
 returns-in-Err-clause-err g c = λ starts begun m.
-    let f = input_device g.R.Read.remaining in
+    let f = input_device g.R.Readable.remaining in
     let due = c.in_ok-advance.ensures.ok starts (map f c.args.streams.now) begun (g.W.Write.contents c.args.draft.now) m in
     let lt = needed starts (map f c.args.streams.now) begun (g.W.Write.contents c.args.draft.now) c.advance.new.self _ due c.in-Need.k c.in-Need.is in
     let below : c.in-Need.k < length c.args.streams.now = omega (arith, lt, map_length f c.args.streams.now) in
     read_fault f starts c.args.streams.now due.merging.inputs c.args.self.now.saved.now c.in-Need.k _ due.merging.read
     (omega (arith, lt, due.merging.same)) below
-    (elim c.in-Err.ensures.err [ inl memory ↦ inl memory | inr at ↦ inr (λ d. (_, refl, at d)) ])
+    (elim c.in-Err.ensures.err [ inl memory ↦ inl memory | inr at ↦ inr (λ d. (_, refl, (at d).0, (at d).1)) ])
 
 pub path_at-requires : goal.path_at-requires
 path_at-requires g c =
-    let f = input_device g.R.Read.remaining in
+    let f = input_device g.R.Readable.remaining in
     let r = c.requires in
     let lt = refused_among r.0 (map f c.args.streams.now) r.1 (g.W.Write.contents c.args.draft.now) c.advance.new.self _
     (c.in_ok-advance.ensures.ok r.0 (map f c.args.streams.now) r.1 (g.W.Write.contents c.args.draft.now) r.2)
@@ -39,7 +39,7 @@ path_at-requires g c =
 
 pub returns-after-len-ge-PIECE-clause-ok : goal.returns-after-len-ge-PIECE-clause-ok
 returns-after-len-ge-PIECE-clause-ok g c = λ starts begun m.
-    let f = input_device g.R.Read.remaining in
+    let f = input_device g.R.Readable.remaining in
     let due = c.in_ok-advance.ensures.ok starts (map f c.args.streams.now) begun (g.W.Write.contents c.args.draft.now) m in
     elim c.if-len-ge-PIECE.branch [
       | then-len-ge-PIECE+in_ok-write-in-Again w ↦ rw (w.self-is, w.draft-is) (w.in_ok-write-in-Again.ensures.ok starts (map f c.args.streams.now) begun _ due).merging
@@ -48,14 +48,14 @@ returns-after-len-ge-PIECE-clause-ok g c = λ starts begun m.
 
 pub returns-in-Ok-clause-ok : goal.returns-in-Ok-clause-ok
 returns-in-Ok-clause-ok g c = λ starts begun m.
-    let f = input_device g.R.Read.remaining in
+    let f = input_device g.R.Readable.remaining in
     let due = c.in_ok-advance.ensures.ok starts (map f c.args.streams.now) begun (g.W.Write.contents c.args.draft.now) m in
     c.in-Ok.ensures.ok starts begun (g.W.Write.contents c.args.draft.now) due.merging
     (unended starts (map f c.args.streams.now) begun (g.W.Write.contents c.args.draft.now) c.advance.new.self _ due c.in-Need.k c.in-Need.is)
 
 pub returns-in-Refused-clause-err : goal.returns-in-Refused-clause-err
 returns-in-Refused-clause-err g c = λ starts begun m.
-    let f = input_device g.R.Read.remaining in
+    let f = input_device g.R.Readable.remaining in
     let due = c.in_ok-advance.ensures.ok starts (map f c.args.streams.now) begun (g.W.Write.contents c.args.draft.now) m in
     let lt = refused_among starts (map f c.args.streams.now) begun (g.W.Write.contents c.args.draft.now) c.advance.new.self _ due
     c.in-Refused.input c.in-Refused.fault c.in-Refused.is in
@@ -68,13 +68,13 @@ returns-in-Refused-clause-err g c = λ starts begun m.
 
 pub returns-in-NamesDiffer-clause-err : goal.returns-in-NamesDiffer-clause-err
 returns-in-NamesDiffer-clause-err g c = λ starts begun m.
-    let f = input_device g.R.Read.remaining in
+    let f = input_device g.R.Readable.remaining in
     let due = c.in_ok-advance.ensures.ok starts (map f c.args.streams.now) begun (g.W.Write.contents c.args.draft.now) m in
     due_others starts (map f c.args.streams.now) begun (g.W.Write.contents c.args.draft.now) c.advance.new.self _ due c.in-NamesDiffer.input c.in-NamesDiffer.is
 
 pub returns-in_ok-write-in-Done-clause-ok : goal.returns-in_ok-write-in-Done-clause-ok
 returns-in_ok-write-in-Done-clause-ok g c = λ starts begun m.
-    let f = input_device g.R.Read.remaining in
+    let f = input_device g.R.Readable.remaining in
     let due = c.in_ok-advance.ensures.ok starts (map f c.args.streams.now) begun (g.W.Write.contents c.args.draft.now) m in
     all_written starts (map f c.args.streams.now) begun (g.W.Write.contents c.write-in-Done.new.draft) c.write-in-Done.new.self _
     (c.in_ok-write-in-Done.ensures.ok starts (map f c.args.streams.now) begun _ due) c.in-Done.is c.in_ok-write-in-Done.ensures.all
