@@ -39,6 +39,7 @@ import merging
 import messages
 import names
 import opac_views
+import ready
 import replies
 import saved
 import saving
@@ -227,6 +228,9 @@ def main():
         print("program: input of an octet a read")
         faults += stops.faults(ZMETA, room)
         print(f"program: {len(stops.HOSTS)} hosts that stop, in the view and in JSON")
+        found, count = ready.faults(ZMETA, room)
+        faults += found
+        print(f"program: {count} runs that are stopped while hosts answer, or that strangers meet")
         found, count = traces.faults(ZMETA, room)
         faults += found
         print(f"program: {count} traces, replayed, cut and damaged")

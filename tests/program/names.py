@@ -15,6 +15,7 @@ import time
 
 from hosts import KINDS, STARTS
 from peers import END, Host, answer_due, fill, world_of
+from ready import many_files, several
 
 # a name with an address that is silent, and one where a host listens; then names of which the name server says nothing
 TWICE = "twice.example"
@@ -22,7 +23,9 @@ SILENT = ("one.example", "other.example", "third.example")
 # one look-up of these names takes so long, in seconds: the resolver asks once
 LOOK_UP = 1
 SERVER = ("127.0.0.1", 53)
-RESOLVER = f"nameserver {SERVER[0]}\noptions timeout:{LOOK_UP} attempts:1\n"
+# many hosts beside a name whose look-up takes longer than they may be silent, and after how long they answer: so all
+# have asked before it, and answered when it ends
+MANY, LONG_LOOK_UP, PATIENCE, LATE = 600, 4, 3, 0.6
 
 
 def may_run():
@@ -35,6 +38,11 @@ def may_run():
         return False
     made = subprocess.run(["unshare", "-m", "mount", "--bind", "/etc/hosts", "/etc/hosts"], capture_output=True)
     return made.returncode == 0
+
+
+def resolver(look_up):
+    """A file of the resolver, by which the look-up of a name takes so many seconds."""
+    return f"nameserver {SERVER[0]}\noptions timeout:{look_up} attempts:1\n"
 
 
 def is_silent(port, held):
@@ -84,29 +92,29 @@ class Trial:
             file.write(text)
         return path
 
-    def program(self, hosts, options):
+    def program(self, hosts, options, look_up=LOOK_UP):
         """What `ask` answers, prints and tells, and how long it takes."""
         world = self.write("named.world", "step 1\n" + world_of(hosts))
-        places = self.write("places", f"::1 {TWICE}\n127.0.0.1 {TWICE}\n"), self.write("resolver", RESOLVER)
+        places = self.write("places", f"::1 {TWICE}\n127.0.0.1 {TWICE}\n"), self.write("resolver", resolver(look_up))
         mounts = f"mount --bind {places[0]} /etc/hosts && mount --bind {places[1]} /etc/resolv.conf"
         words = ["unshare", "-m", "sh", "-c", f'{mounts} && exec "$@"', "sh", self.zmeta, "ask", world, *options]
         begun = time.monotonic()
         ran = subprocess.run(words, stdin=subprocess.DEVNULL, capture_output=True, timeout=END)
         return (ran.returncode, ran.stdout.decode(), ran.stderr.decode()), time.monotonic() - begun
 
-    async def faults(self, title, hosts, options, least, most, names=()):
+    async def faults(self, title, hosts, options, least, most, names=(), look_up=LOOK_UP):
         """What is not as it should be of a run. It looks these names up, each once."""
         loop = asyncio.get_running_loop()
         stream, server = await loop.create_datagram_endpoint(NameServer, local_addr=SERVER)
         try:
             start = (await loop.run_in_executor(None, self.program, [], ()))[1]
-            answer, taken = await loop.run_in_executor(None, self.program, hosts, options)
+            answer, taken = await loop.run_in_executor(None, self.program, hosts, options, look_up)
         finally:
             stream.close()
             await asyncio.sleep(0.01)
         found, due = [], answer_due(hosts)
         if answer != due:
-            found.append(f"{answer}\n    {due} is due")
+            found.append(f"{answer}\n    {due} is due"[:2000])
         if not least <= taken <= most + STARTS * start:
             found.append(f"{taken:.2f} s, and {least} to {most} s are due")
         if server.names != list(names):
@@ -146,7 +154,22 @@ async def all_faults(zmeta, room, held):
         found += await trial.faults("a silent name server", hosts, ("--at-once",), 2 * LOOK_UP, 4 * LOOK_UP, SILENT)
         within = ("--within", "1", "--at-once")
         found += await trial.faults("no time for all names", hosts, within, LOOK_UP, 2 * LOOK_UP, SILENT[:1])
-    return found, 10
+    return found + await many_faults(trial), 11
+
+
+async def many_faults(trial):
+    """What is not as it should be of many hosts beside a name that is looked up for too long: none of them is lost."""
+    many, lost = several(MANY, LATE), unfound(SILENT[0])
+    options, least = ("--at-once", "--patience", str(PATIENCE)), LONG_LOOK_UP
+    title, hosts = f"{MANY} hosts beside one dead name", [lost, *many]
+    try:
+        with many_files():
+            for it in hosts:
+                await it.open()
+            return await trial.faults(title, hosts, options, least, 3 * least, SILENT[:1], LONG_LOOK_UP)
+    finally:
+        for it in many:
+            it.close()
 
 
 def faults(zmeta, room):

@@ -35,6 +35,9 @@ stopped_front old now then text rest h k =
 pub none_put : (now : Option (List ℕ)) (text : List ℕ) → HasPut now now text text
 none_put now text = ([], refl, Appends-nil now)
 
+-- the pieces of a text that a writer takes: a front, a front until it failed, none yet
+pub ruleset piece_steps = (put_front, stopped_front, none_put)
+
 pub nothing_put : (old new : Option (List ℕ)) → Keeps old new → Appends old new []
 nothing_put old new k = Appends-kept old old new [] (Appends-nil old) k
 

@@ -71,7 +71,7 @@ impl<W: Write> Counted<W> {
 }
 
 /// Writes a text in pieces, and returns whether the writer took all of it. If not, it took a front.
-#[tactic(auto, using(crate::proofs::DeviceSteps::put_front, crate::proofs::DeviceSteps::stopped_front, crate::proofs::DeviceSteps::none_put))]
+#[tactic(auto, using(crate::proofs::DeviceSteps::piece_steps))]
 fn write_pieces<W: Write>(writer: &mut W, text: &[u8]) -> bool
     ensures { WritePiecesResult (W.contents writer.old) (W.contents writer.new) text.now result }
 {

@@ -1,9 +1,8 @@
 -- Drafts that were begun, and what became of them.
-use Rattle.std.proofs.Common.{◌≡◌, ◌∙◌, ◌⊎◌, inl, inr, refl, sym, ap, subst, ℕ, List, Option, Result, Ok, Err, IfSome}
+use Rattle.std.proofs.Common.{◌≡◌, ◌∙◌, inl, inr, refl, subst, ℕ, List, Option, Result, Ok, Err}
 use Rattle.std.specs.Io.KnownBytes.{Appends}
 use Rattle.zknow.specs.declared.fact.Fact.{Fact}
-use Rattle.zknow.specs.Saved.Saved.{IsSaved}
-use Rattle.zmeta_devices.specs.Files.{Files, WasTaken, IsDraft, with_draft, IsKept, IsUnmade}
+use Rattle.zmeta_devices.specs.Files.{Files, WasTaken, IsDraft, with_draft, IsKept}
 use Rattle.zmeta_devices.specs.Files.FileStep.{drafted}
 use Rattle.zmeta_devices.proofs.Filing.{draft_kept, draft_taken}
 use Rattle.zmeta_devices.specs.declared.fault.Fault.{Fault}
@@ -95,14 +94,13 @@ module _ {D : Type 0} (contents : D → Option (List ℕ)) (paths : List (List �
 
 -- ---- a list and a file
 
-module _ (view : View) (paths : List (List ℕ)) (saved : List ℕ) (old mid new : Files)
-    (output listed before between errors : Device) (status : Status) where
+module _ (view : View) (paths : List (List ℕ)) (saved : List ℕ) (old mid : Files) (output before errors : Device)
+    (status : Status) where
   -- no draft was begun
-  pub unbegun_join : {D : Type 0} (f : Fault) → BeginResult {D = D} old mid saved (Err f)
-      → AfterEnd (Err f) before errors status
+  pub unbegun_join : (f : Fault) → IsDraftFault saved f → mid ≡ old → AfterEnd (Err f) before errors status
       → AfterJoinSaved view paths saved old mid (record { output = output; errors = before })
       (record { output = output; errors = errors }) status
-  unbegun_join f h end = (Err f, before, inl (f, refl, h.0, h.1, refl), end)
+  unbegun_join f h is end = (Err f, before, inl (f, refl, h, is, refl), end)
 
   -- a file is refused
   pub refused_join : (f : Fault) → mid ≡ with_draft old saved → LoadAllResult mid.octets paths (Err f)
@@ -117,14 +115,14 @@ module _ (view : View) (paths : List (List ℕ)) (saved : List ℕ) (old mid new
   )
 
   -- the facts are listed and saved
-  pub saved_join : (known : List Fact × List (List ℕ)) (result : Result Status Fault) → mid ≡ with_draft old saved
-      → LoadAllResult mid.octets paths (Ok known)
+  pub saved_join : (new : Files) (listed between : Device) (known : List Fact × List (List ℕ))
+      (result : Result Status Fault) → mid ≡ with_draft old saved → LoadAllResult mid.octets paths (Ok known)
       → ListAndSaveResult known.1 known.0 view saved mid new (record { output = output; errors = before })
       (record { output = listed; errors = between }) result
       → AfterEnd result between errors status
       → AfterJoinSaved view paths saved old new (record { output = output; errors = before })
       (record { output = listed; errors = errors }) status
-  saved_join known result is h done end = (
+  saved_join new listed between known result is h done end = (
     result,
     between,
     inr (inr (
@@ -138,8 +136,6 @@ module _ (view : View) (paths : List (List ℕ)) (saved : List ℕ) (old mid new
   )
 
 -- what becomes of a draft
-pub ruleset of_joins = (unbegun_join, refused_join, saved_join)
-
 pub ruleset of_facts = (saved_facts, unsaved_facts)
 
 pub ruleset of_drafts = (undrafted, merged_draft, unmerged_draft)

@@ -99,7 +99,6 @@ fn join_files<'a, 'o: 'a, F: Folder, W: Write>(
 /// reason on `errors`; nothing is printed or saved.
 ///
 /// Returns `Failed` if the list has a search or an association that failed.
-#[tactic(auto, using(crate::proofs::Savings::of_joins))]
 pub fn join_saved<'a, 'o: 'a, F: Folder, W: Write, E: Write>(
     alloc: Global,
     files: &mut F,

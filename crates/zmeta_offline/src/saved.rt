@@ -117,7 +117,7 @@ pub(crate) fn keep<'a, F: Folder>(
 ) -> Result<(), Fault<'a>>
     requires { WasTaken (F.steps files.old) (drafted path.now) }
     ensures { KeepDraftResult (folder F.octets F.are_one F.steps files.old)
-        (folder F.octets F.are_one F.steps files.new) path.entry.now (F.Draft.contents draft.entry) result }
+        (folder F.octets F.are_one F.steps files.new) path.entry.now (F.Draft.contents draft) result }
 {
     match files.keep(path, draft) {
         Ok(()) => Ok(()),

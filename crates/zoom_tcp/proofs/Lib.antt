@@ -3,4 +3,5 @@ pub mod Pairs
 pub mod Ending
 pub mod Hosts
 pub mod Replayed
-pub mod Telling
+pub mod TellingTheory
+pub mod WakingTheory

@@ -4,3 +4,4 @@ pub mod Families
 pub mod Loopback
 pub mod Serving
 pub mod Telling
+pub mod Waking

@@ -3,17 +3,18 @@ ghost use Rattle.std.specs.Prelude.{◌≡◌, ◌<◌, ◌^◌, length, option_
 ghost use Rattle.zoom_questions.specs.Askable.{AreFit, AreAskable};
 ghost use Rattle.zoom_tcp.specs.Asking.{IsAsked, IsTracedAsk, asked_host, hosts_of, trace_beside};
 
-mod telling;
-
 use crate::limits::{Family, HostWaits, Limits};
 use crate::names::{Names, addresses_in, resolve};
+use crate::ready::Ready;
 use crate::sockets::Sockets;
 use crate::stopwatch::Stopwatch;
+use crate::telling::{tell, tell_if};
+use crate::waking::wake;
 use crate::watch::Watch;
 use bytes::Bytes;
 use std::alloc::{AllocError, Global};
 use std::io::Write;
-use std::net::Net;
+use std::net::{Net, SocketAddr};
 use std::time::{Clock, Duration};
 use zber::Seq;
 use zoom_asking::laws::{asked_end_law, given_up_law};
@@ -91,10 +92,9 @@ pub fn ask<N: Net + Clock, V: Watch, T: Write + Drop>(
         alloc,
         net,
         family: limits.family,
-        stopwatch,
         now,
         names: Names::new(alloc, now),
-        sockets: Sockets::new(alloc, net, addresses.len())?,
+        sockets: Sockets::new(alloc, net, stopwatch, addresses.len())?,
     };
     shell.ask_all(&mut recorder, addresses, watch)?;
     let notices = shell.sockets.notices(alloc)?;
@@ -143,14 +143,13 @@ fn trace_beside<T: Drop>(waits: &[HostWaits], trace: Option<T>) -> Option<T>
     }
 }
 
-/// The names and sockets of hosts that are asked, and a clock.
+/// The names and sockets of hosts that are asked.
 #[derive(Drop)]
 struct Shell<'a, N> {
     alloc: Global,
     net: &'a N,
     family: Family,
-    stopwatch: Stopwatch<'a, N>,
-    /// The time of the last wake.
+    /// The time at which the last thing happened that is known.
     now: u64,
     names: Names,
     sockets: Sockets<'a, N>,
@@ -162,7 +161,8 @@ impl<'a, N: Net + Clock> Shell<'a, N> {
     ghost use Rattle.zoom_trace.specs.Recording.{IsRecordedOn};
     ghost use Rattle.zoom_trace.specs.Tracing.{IsWrittenOut};
     ghost use Rattle.zoom_tcp.specs.Asking.{IsEndedOn};
-    ghost use Rattle.zoom_tcp.specs.Telling.{IsBegun, IsBegunIf};
+    ghost use Rattle.zoom_asking.specs.declared.inquiry.Report.TheVariants as reports;
+    ghost use Rattle.zoom_tcp.specs.Telling.{IsBegun, IsBegunIf, IsToldIf};
 
     /// Asks all hosts to their ends, and writes what is left of the trace.
     fn ask_all<V: Watch, T: Write + Drop>(
@@ -232,6 +232,29 @@ impl<'a, N: Net + Clock> Shell<'a, N> {
         }
     }
 
+    /// These are the addresses of a connection's host. If there are none, that is why.
+    fn resolved<T: Write + Drop>(
+        &mut self,
+        recorder: &mut Recorder<T>,
+        c: u32,
+        addresses: Vec<SocketAddr>,
+        notice: Notice,
+    ) -> Result<(), AllocError>
+        ensures recorded { OnOk result (IsRecordedOn T.contents recorder.old recorder.new) }
+        ensures told { OnOk result (IsToldIf T.contents self.old.now c (reports.Resolved (length addresses.items))
+            recorder.old recorder.new) }
+    {
+        let count = addresses.len();
+        self.sockets.know(c, addresses, notice);
+        tell(
+            &self.sockets,
+            recorder,
+            self.now,
+            c,
+            Report::Resolved(count),
+        )
+    }
+
     /// Goes on until each connection is over, for 2^64 - 1 wakes at most. Returns whether they are over. What was
     /// reported is written before each wait.
     #[tactic(auto, using(zoom_trace::proofs::Recorded::none_recorded))]
@@ -252,7 +275,7 @@ impl<'a, N: Net + Clock> Shell<'a, N> {
             }
             recorder.write_out();
             let most = self.look_up(recorder)?;
-            self.wake(recorder, shorter_of(most, again))?;
+            self.now = wake(&mut self.sockets, recorder, shorter_of(most, again))?;
         }
         Ok(false)
     }
@@ -287,7 +310,8 @@ impl<'a, N: Net + Clock> Shell<'a, N> {
         Ok(())
     }
 
-    /// Does what is to be done next. Returns whether there was anything.
+    /// Does what is to be done next. Returns whether there was anything. The time is read once it is done, since a host
+    /// cannot answer before what it was sent.
     #[tactic(auto, using(zoom_trace::proofs::Recorded::none_recorded, zoom_trace::proofs::Recorded::one_recorded))]
     fn act_next<T: Write + Drop>(&mut self, recorder: &mut Recorder<T>) -> Result<bool, AllocError>
         ensures { OnOk result (IsRecordedOn T.contents recorder.old recorder.new) }
@@ -297,7 +321,8 @@ impl<'a, N: Net + Clock> Shell<'a, N> {
             return Ok(false);
         };
         let report = self.act(recorder, action)?;
-        self.tell_if(recorder, action.c, report)?;
+        self.now = self.sockets.time();
+        tell_if(&self.sockets, recorder, self.now, action.c, report)?;
         Ok(true)
     }
 
@@ -375,9 +400,9 @@ impl<'a, N: Net + Clock> Shell<'a, N> {
         let Some((name, connections)) = self.names.next()? else {
             return Ok(());
         };
-        let before = self.stopwatch.now();
+        let before = self.sockets.time();
         let found = resolve(self.alloc, self.net, name.as_slice(), self.family)?;
-        self.now = self.stopwatch.now();
+        self.now = self.sockets.time();
         self.names.pass(before, self.now);
         for i in 0..connections.len() {
             self.resolved(
@@ -396,43 +421,6 @@ impl<'a, N: Net + Clock> Shell<'a, N> {
             return Some(Duration::ZERO);
         }
         Some(Duration::from_nanos(until?.saturating_sub(self.now)))
-    }
-
-    /// Waits until sockets are ready, or the time is up, and tells what happened on each.
-    fn wake<T: Write + Drop>(
-        &mut self,
-        recorder: &mut Recorder<T>,
-        most: Option<Duration>,
-    ) -> Result<(), AllocError>
-        ensures { OnOk result (IsRecordedOn T.contents recorder.old recorder.new) }
-    {
-        self.sockets.wait(most)?;
-        self.now = self.stopwatch.now();
-        self.serve_all(recorder)?;
-        recorder.tick(self.now)?;
-        Ok(())
-    }
-
-    /// Serves each socket that is ready once, and tells what happened on it.
-    #[tactic(auto, using(zoom_trace::proofs::Recorded::none_recorded))]
-    fn serve_all<T: Write + Drop>(&mut self, recorder: &mut Recorder<T>) -> Result<(), AllocError>
-        ensures { OnOk result (IsRecordedOn T.contents recorder.old recorder.new) }
-    {
-        for _ in 0..self.sockets.queued() {
-            self.serve_next(recorder)?;
-        }
-        Ok(())
-    }
-
-    /// Serves the next socket that is ready, if there is one, and tells what happened on it.
-    #[tactic(auto, using(zoom_trace::proofs::Recorded::none_recorded))]
-    fn serve_next<T: Write + Drop>(&mut self, recorder: &mut Recorder<T>) -> Result<(), AllocError>
-        ensures { OnOk result (IsRecordedOn T.contents recorder.old recorder.new) }
-    {
-        match self.sockets.serve()? {
-            Some((c, happening)) => self.happen(recorder, c, happening),
-            None => Ok(()),
-        }
     }
 }
 

@@ -11,10 +11,13 @@ mod link;
 mod loopback;
 mod names;
 mod notice;
+mod ready;
 mod service;
 mod socket;
 mod sockets;
 mod stopwatch;
+mod telling;
+mod waking;
 mod watch;
 
 pub use asking::{Asked, ask};

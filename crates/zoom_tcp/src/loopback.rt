@@ -10,8 +10,8 @@ use crate::link::{PATIENCE, set_limits};
 use crate::service::ServeError;
 use std::alloc::{AllocError, Global};
 use std::io;
-use std::io::{Read, Write};
-use std::net::{Net, OpenListener, SocketAddr, TcpListener, TcpStream};
+use std::io::{ErrorKind, Read, Write};
+use std::net::{Net, OpenListener, OpenStream, SocketAddr, TcpListener, TcpStream};
 use std::time::Duration;
 use zoom_io::{Counting, Sink, Source};
 use zoom_pool::{Meta, MetaSettings, Question, Reason};
@@ -168,6 +168,22 @@ fn run_on<S: Read + Write>(
     run_over(alloc, questions, settings, targets, way, &[])
 }
 
+/// Takes the connection that comes from this address, and closes each other that comes before.
+fn accept_from<L: OpenListener>(
+    listener: &L,
+    own: SocketAddr,
+) -> io::Result<(L::Stream, SocketAddr)>
+    ensures { IfOk result (λ taken. taken.1 ≡ own) }
+{
+    for _ in 0..u64::MAX {
+        let (stream, from) = listener.accept()?;
+        if from == own {
+            return Ok((stream, from));
+        }
+    }
+    Err(io::Error::from(ErrorKind::TimedOut))
+}
+
 /// A connection with both ends here, with limits of 30 seconds for connecting, for each read and for each write.
 fn pair_of<N: Net>(
     net: &N,
@@ -177,7 +193,7 @@ fn pair_of<N: Net>(
     ensures { IfOk result (λ pair. pair.failure ≡ None) }
 {
     let client = TcpStream::connect_timeout(net, &address, Duration::from_secs(PATIENCE))?;
-    let (server, _) = listener.accept()?;
+    let (server, _) = accept_from(listener, client.local_addr()?)?;
     set_limits(&client)?;
     set_limits(&server)?;
     Ok(Pair {
@@ -214,9 +230,10 @@ fn open_loopback<N: Net>(
 }
 
 /// Puts each question to the target of the same number, as `run_world` does without moves, over TCP on 127.0.0.1
-/// (Z39.50-2003, 3.2). Both ends of each connection are in this process. Each write has at most 4,096 octets and is
-/// read at the other end before the next write. If a write does not arrive as it was written, its own connection
-/// alone fails. No connection is stopped for another reason, unless 2^64 - 1 rounds were made.
+/// (Z39.50-2003, 3.2). Both ends of each connection are in this process, and a connection that another makes is closed.
+/// Each write has at most 4,096 octets and is read at the other end before the next write. If a write does not arrive
+/// as it was written, its own connection alone fails. No connection is stopped for another reason, unless 2^64 - 1
+/// rounds were made.
 ///
 /// There are fewer than 2^32 questions, and as many targets.
 ///

@@ -1,8 +1,13 @@
-//! The sockets of all hosts, watched by one poll of the system.
+//! The sockets of all hosts, watched by one poll of the system, and a clock.
+ghost use Rattle.std.specs.Prelude.{OnOk};
+ghost use Rattle.zoom_tcp.specs.Waking.{IsLonger};
+
 use crate::failures::is_for_want;
 use crate::host::Host;
 use crate::notice::of_attempt;
+use crate::ready::Ready;
 use crate::socket::{Moved, Progress, Socket};
+use crate::stopwatch::Stopwatch;
 use mio::event::Event;
 use mio::net::TcpStream;
 use mio::{Events, Interest, Poll, Token};
@@ -10,11 +15,11 @@ use std::alloc::{AllocError, Global};
 use std::collections::VecDeque;
 use std::io;
 use std::net::{Net, SocketAddr};
-use std::time::Duration;
+use std::time::{Clock, Duration};
 use zoom_asking::Report;
 use zoom_trace::Notice;
 
-/// The most sockets that one wait reports. The next wait reports the others.
+/// The most sockets that one poll gives. The next poll gives the others.
 const MOST_EVENTS: usize = 256;
 
 /// The most octets of one read.
@@ -36,6 +41,7 @@ pub(crate) enum Happening {
 #[derive(Drop)]
 pub(crate) struct Sockets<'a, N> {
     net: &'a N,
+    stopwatch: Stopwatch<'a, N>,
     /// Without a poll of the system no host can be reached.
     poll: Option<Poll>,
     events: Events,
@@ -62,11 +68,42 @@ fn begin<N: Net>(net: &N, poll: &Poll, token: Token, address: SocketAddr) -> io:
     Ok(stream)
 }
 
+/// Notes what events tell of the sockets of hosts. Each socket that one tells of is behind those that are to be served,
+/// or was among them.
+#[tactic(auto, using(crate::proofs::WakingTheory::longer_same, crate::proofs::WakingTheory::longer_one, crate::proofs::WakingTheory::longer_more))]
+fn note_all(
+    events: &Events,
+    hosts: &mut Vec<Host>,
+    queue: &mut VecDeque<(u32, usize)>,
+) -> Result<(), AllocError>
+    ensures { OnOk result (IsLonger queue.old.items queue.new.items) }
+{
+    for event in events {
+        let token = event.token().0;
+        let c = token % TOKENS;
+        let k = token / TOKENS;
+        if let Some(host) = hosts.get_mut(c)
+            && let Some(socket) = host.socket(k)
+        {
+            socket.note(event);
+            if !socket.is_queued {
+                socket.is_queued = true;
+                queue.push_back((c as u32, k))?;
+            }
+        }
+    }
+    Ok(())
+}
+
 impl<'a, N: Net> Sockets<'a, N> {
+    ghost use Rattle.std.specs.Prelude.{◌≡◌, OnOk};
+    ghost use Rattle.zoom_tcp.specs.Waking.{IsLonger};
+
     /// No sockets, for so many connections.
     pub(crate) fn new(
         alloc: Global,
         net: &'a N,
+        stopwatch: Stopwatch<'a, N>,
         count: usize,
     ) -> Result<Sockets<'a, N>, AllocError> {
         let mut hosts = Vec::new(alloc);
@@ -75,6 +112,7 @@ impl<'a, N: Net> Sockets<'a, N> {
         }
         Ok(Sockets {
             net,
+            stopwatch,
             poll: Poll::new(net).ok(),
             events: Events::with_capacity(alloc, MOST_EVENTS)?,
             hosts,
@@ -95,17 +133,6 @@ impl<'a, N: Net> Sockets<'a, N> {
         !self.queue.is_empty()
     }
 
-    /// How many sockets are to be served.
-    pub(crate) fn queued(&self) -> usize {
-        self.queue.len()
-    }
-
-    /// The first `count` octets that were read last.
-    pub(crate) fn piece(&self, count: usize) -> &[u8] {
-        let all = self.piece.as_slice();
-        all.get(..count).unwrap_or(all)
-    }
-
     /// These are the addresses of a connection's host. If there are none, that is why.
     pub(crate) fn know(&mut self, c: u32, addresses: Vec<SocketAddr>, notice: Notice) {
         if let Some(host) = self.hosts.get_mut(c as usize) {
@@ -113,14 +140,6 @@ impl<'a, N: Net> Sockets<'a, N> {
                 host.note(notice);
             }
             host.addresses = addresses;
-        }
-    }
-
-    /// What was noticed of a connection's host.
-    pub(crate) fn notice(&self, c: u32) -> Notice {
-        match self.hosts.get(c as usize) {
-            Some(host) => host.notice(),
-            None => Notice::Nothing,
         }
     }
 
@@ -152,7 +171,9 @@ impl<'a, N: Net> Sockets<'a, N> {
     }
 
     /// Closes the socket of an attempt.
-    pub(crate) fn leave(&mut self, c: u32, k: usize) {
+    pub(crate) fn leave(&mut self, c: u32, k: usize)
+        ensures { self.new.queue ≡ self.old.queue }
+    {
         if let Some(host) = self.hosts.get_mut(c as usize)
             && host.close(k)
         {
@@ -190,7 +211,10 @@ impl<'a, N: Net> Sockets<'a, N> {
     }
 
     /// Puts a socket behind those that are to be served.
-    fn queue(&mut self, c: u32, k: usize) -> Result<(), AllocError> {
+    #[tactic(auto, using(crate::proofs::WakingTheory::longer_same, crate::proofs::WakingTheory::longer_one, crate::proofs::WakingTheory::longer_more))]
+    fn queue(&mut self, c: u32, k: usize) -> Result<(), AllocError>
+        ensures { OnOk result (IsLonger self.old.queue.items self.new.queue.items) }
+    {
         if let Some(host) = self.hosts.get_mut(c as usize)
             && let Some(socket) = host.socket(k)
             && !socket.is_queued
@@ -202,7 +226,10 @@ impl<'a, N: Net> Sockets<'a, N> {
     }
 
     /// The same, if octets are to be written on it or read of it.
-    fn queue_if_ready(&mut self, c: u32, k: usize) -> Result<(), AllocError> {
+    #[tactic(auto, using(crate::proofs::WakingTheory::longer_same, crate::proofs::WakingTheory::longer_one, crate::proofs::WakingTheory::longer_more))]
+    fn queue_if_ready(&mut self, c: u32, k: usize) -> Result<(), AllocError>
+        ensures { OnOk result (IsLonger self.old.queue.items self.new.queue.items) }
+    {
         match self.hosts.get(c as usize) {
             Some(host) if host.is_to_write(k) || host.is_to_read(k) => self.queue(c, k),
             _ => Ok(()),
@@ -221,44 +248,26 @@ impl<'a, N: Net> Sockets<'a, N> {
         self.heard.clear();
     }
 
-    /// Waits until sockets are ready, or the time is up, and notes which are to be served.
-    pub(crate) fn wait(&mut self, most: Option<Duration>) -> Result<(), AllocError> {
-        self.acknowledge();
+    /// Polls, waits for so long at most, and notes which sockets are to be served.
+    #[tactic(auto, using(crate::proofs::WakingTheory::longer_same, crate::proofs::WakingTheory::longer_one, crate::proofs::WakingTheory::longer_more))]
+    fn poll_for(&mut self, most: Option<Duration>) -> Result<(), AllocError>
+        ensures { OnOk result (IsLonger self.old.queue.items self.new.queue.items) }
+    {
         let Some(poll) = &mut self.poll else {
+            self.events.clear();
             return Ok(());
         };
         if poll.poll(&mut self.events, most).is_err() {
             return Ok(());
         }
-        for event in &self.events {
-            let token = event.token().0;
-            let c = token % TOKENS;
-            let k = token / TOKENS;
-            if let Some(host) = self.hosts.get_mut(c)
-                && let Some(socket) = host.socket(k)
-            {
-                socket.note(event);
-                if !socket.is_queued {
-                    socket.is_queued = true;
-                    self.queue.push_back((c as u32, k))?;
-                }
-            }
-        }
-        Ok(())
+        note_all(&self.events, &mut self.hosts, &mut self.queue)
     }
 
-    /// Serves the next socket that is to be served. Returns its connection and what happened on it, if anything did.
-    pub(crate) fn serve(&mut self) -> Result<Option<(u32, Happening)>, AllocError> {
-        let Some((c, k)) = self.queue.pop_front() else {
-            return Ok(None);
-        };
-        match self.serve_one(c, k)? {
-            Some(happening) => Ok(Some((c, happening))),
-            None => Ok(None),
-        }
-    }
-
-    fn serve_one(&mut self, c: u32, k: usize) -> Result<Option<Happening>, AllocError> {
+    /// Serves a socket: looks how it stands, writes or reads. What cannot be written does not keep it from being read.
+    #[tactic(auto, using(crate::proofs::WakingTheory::longer_same, crate::proofs::WakingTheory::longer_one, crate::proofs::WakingTheory::longer_more))]
+    fn serve_one(&mut self, c: u32, k: usize) -> Result<Option<Happening>, AllocError>
+        ensures { OnOk result (IsLonger self.old.queue.items self.new.queue.items) }
+    {
         let Some(host) = self.hosts.get_mut(c as usize) else {
             return Ok(None);
         };
@@ -269,20 +278,16 @@ impl<'a, N: Net> Sockets<'a, N> {
         if !socket.is_connected {
             return Ok(self.look(c, k));
         }
-        if host.is_to_write(k) {
-            return match self.write(c, k)? {
-                Some(report) => Ok(Some(Happening::Report(report))),
-                None => Ok(None),
-            };
+        if let Some(report) = self.write(c, k)? {
+            return Ok(Some(Happening::Report(report)));
         }
-        if host.is_to_read(k) {
-            return self.read(c, k);
-        }
-        Ok(None)
+        self.read(c, k)
     }
 
     /// Looks how an attempt to connect stands.
-    fn look(&mut self, c: u32, k: usize) -> Option<Happening> {
+    fn look(&mut self, c: u32, k: usize) -> Option<Happening>
+        ensures { self.new.queue ≡ self.old.queue }
+    {
         let host = self.hosts.get_mut(c as usize)?;
         let socket = host.socket(k)?;
         match socket.progress() {
@@ -302,30 +307,39 @@ impl<'a, N: Net> Sockets<'a, N> {
     }
 
     /// Writes what waits on a connection.
-    fn write(&mut self, c: u32, k: usize) -> Result<Option<Report>, AllocError> {
+    #[tactic(auto, using(crate::proofs::WakingTheory::longer_same, crate::proofs::WakingTheory::longer_one, crate::proofs::WakingTheory::longer_more))]
+    fn write(&mut self, c: u32, k: usize) -> Result<Option<Report>, AllocError>
+        ensures { OnOk result (IsLonger self.old.queue.items self.new.queue.items) }
+    {
         let Some(host) = self.hosts.get_mut(c as usize) else {
             return Ok(None);
         };
         if !host.is_to_write(k) {
             return Ok(None);
         }
-        let moved = host.write(k);
-        if moved == Moved::Failure {
-            host.note(Notice::Reset);
-        }
+        let report = match host.write(k) {
+            Moved::Octets(_) => Report::Taken,
+            Moved::Failure => {
+                host.note(Notice::Reset);
+                Report::Unwritable
+            }
+            _ => return Ok(None),
+        };
         self.queue_if_ready(c, k)?;
-        match moved {
-            Moved::Octets(_) => Ok(Some(Report::Taken)),
-            Moved::Failure => Ok(Some(Report::Unwritable)),
-            _ => Ok(None),
-        }
+        Ok(Some(report))
     }
 
-    /// Reads octets of a connection.
-    fn read(&mut self, c: u32, k: usize) -> Result<Option<Happening>, AllocError> {
+    /// Reads octets of a connection, if they are wanted.
+    #[tactic(auto, using(crate::proofs::WakingTheory::longer_same, crate::proofs::WakingTheory::longer_one, crate::proofs::WakingTheory::longer_more))]
+    fn read(&mut self, c: u32, k: usize) -> Result<Option<Happening>, AllocError>
+        ensures { OnOk result (IsLonger self.old.queue.items self.new.queue.items) }
+    {
         let Some(host) = self.hosts.get_mut(c as usize) else {
             return Ok(None);
         };
+        if !host.is_to_read(k) {
+            return Ok(None);
+        }
         let Some(socket) = host.socket(k) else {
             return Ok(None);
         };
@@ -342,6 +356,66 @@ impl<'a, N: Net> Sockets<'a, N> {
             Moved::End => Ok(Some(Happening::Report(Report::End))),
             Moved::Failure => Ok(Some(Happening::Report(Report::Unreadable))),
             Moved::Nothing => Ok(None),
+        }
+    }
+}
+
+impl<'a, N: Net + Clock> Ready for Sockets<'a, N> {
+    ghost use Rattle.std.specs.Prelude.{ℕ};
+    ghost use Rattle.zoom_tcp.specs.Waking.{IsPollOf, polls_of, IsServeOf, queue_of};
+
+    ghost IsTime = { λ s now. Unit {0} };
+
+    ghost IsPolled = { λ old more new. IsPollOf old more new };
+
+    ghost polls = { λ s. polls_of s };
+
+    ghost queue = { λ s. queue_of s };
+
+    ghost IsServed = { λ old happened new. IsServeOf old happened new };
+
+    fn wait(&mut self, most: Option<Duration>) -> Result<(), AllocError> {
+        self.acknowledge();
+        self.poll_for(most)
+    }
+
+    fn time(&self) -> u64 {
+        self.stopwatch.now()
+    }
+
+    fn most_polls(&self) -> usize {
+        self.open / MOST_EVENTS + 1
+    }
+
+    fn poll(&mut self) -> Result<bool, AllocError> {
+        self.poll_for(Some(Duration::ZERO))?;
+        Ok(self.events.iter().len() >= MOST_EVENTS)
+    }
+
+    fn queued(&self) -> usize {
+        self.queue.len()
+    }
+
+    #[tactic(auto, using(crate::proofs::WakingTheory::first_served, crate::proofs::WakingTheory::first_silent, crate::proofs::WakingTheory::none_served))]
+    fn serve(&mut self) -> Result<Option<(u32, Happening)>, AllocError> {
+        let Some((c, k)) = self.queue.pop_front() else {
+            return Ok(None);
+        };
+        match self.serve_one(c, k)? {
+            Some(happening) => Ok(Some((c, happening))),
+            None => Ok(None),
+        }
+    }
+
+    fn piece(&self, count: usize) -> &[u8] {
+        let all = self.piece.as_slice();
+        all.get(..count).unwrap_or(all)
+    }
+
+    fn notice(&self, c: u32) -> Notice {
+        match self.hosts.get(c as usize) {
+            Some(host) => host.notice(),
+            None => Notice::Nothing,
         }
     }
 }

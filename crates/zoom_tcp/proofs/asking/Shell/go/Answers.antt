@@ -21,4 +21,4 @@ loop-preserved g c =
     let written = then_recorded W [] old c.act_all.new.recorder c.write_out.new.self acted c.write_out.ensures.recorded
     in
     let found = more_recorded W old c.write_out.new.self c.look_up.new.recorder written c.in_ok-most.ensures in
-    more_recorded W old c.look_up.new.recorder c.wake.new.recorder found c.in_ok-wake.ensures
+    more_recorded W old c.look_up.new.recorder c.wake.new.recorder found c.in_ok-self.ensures.recorded
