@@ -1,6 +1,7 @@
 #!/usr/bin/env python3
 """Asks one server as three catalogues of a file, with and without a charset, and looks how its records are shown; then
-a host for each of the three, of which the first has a text of two lines.
+a host for each of the three, of which the first has a text of two lines; then a host as a catalogue of two databases,
+with attributes and an element set name of its own, and looks what it is sent.
 
     ZMETA=PROGRAM python3 tests/program/charsets.py
 
@@ -14,8 +15,9 @@ import shutil
 import subprocess
 import sys
 import tempfile
+import threading
 
-from peers import ACCEPTED, CLOSE, connected, counted, free_port, shown, silent, threaded
+from peers import ACCEPTED, CLOSE, INIT, connected, counted, found, free_port, shown, silent, threaded
 from saved import MARC21, SUTRS, record
 
 FILES = os.path.join(os.path.dirname(os.path.abspath(__file__)), "files")
@@ -145,10 +147,39 @@ def faults_of_hosts(zmeta, room):
         it.close()
 
 
+# The search of the databases y and z, both element set names F, for a title with a structure of its own.
+SEARCH = bytes.fromhex(
+    "b65b 820400000001 8d0100 8e0101 8f0100 9001ff 910131 b208 9f690179 9f69017a bf6403800146 bf6503800146"
+    "b52e a12c 06072a8648ce130301 a021 bf661e bf2c14 3008 9f780101 9f790104 3008 9f780104 9f790106 9f2d04 64756e65")
+
+
+def faults_of_question(zmeta, room):
+    """What is not as it should be of what a host is sent."""
+    held, came, ended = [], [], threading.Event()
+
+    def finds_nothing(link):
+        link.sendall(ACCEPTED + found(1, 0, 0) + CLOSE)
+        while piece := link.recv(4096):
+            came.append(piece)
+        ended.set()
+
+    file = (f'[b]\naddress = "{threaded(finds_nothing, held)}"\ndatabase = ["y", "z"]\nelements = "F"\n'
+            'terms.title = "@attr 1=4 @attr 4=6"\n')
+    with open(os.path.join(room, "question.toml"), "w", encoding="utf-8") as it:
+        it.write(file)
+    printed = ran(zmeta, room, "ask", "question.toml", "--title", "dune")
+    yield from fault("question, ended", ended.wait(END), True)
+    yield from fault("question", printed, (0, b'target "b" set 1 count 0\n', ""))
+    yield from fault("question, sent", b"".join(came).hex(), (INIT + SEARCH + CLOSE).hex())
+    for it in held:
+        it.close()
+
+
 def faults(zmeta, room):
     """What is not as it should be."""
     yield from faults_of_server(zmeta, room)
     yield from faults_of_hosts(zmeta, room)
+    yield from faults_of_question(zmeta, room)
 
 
 def faults_of_server(zmeta, room):

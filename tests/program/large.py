@@ -5,8 +5,9 @@ here alone.
     ZMETA=PROGRAM python3 tests/program/large.py          (all commands)
     ZMETA=PROGRAM python3 tests/program/large.py show     (this one)
 
-`show` reads two million digits, and `catalogues` a file of 10,000. The others have 100,000 records of one catalogue
-each; `join` prints 200,000 rows, of which standard output takes 16 octets at a time, and `new` has that many changes.
+`show` reads two million digits, and `catalogues` a file of 10,000, and files of 20,000 with a long setting and with
+mistakes. The others have 100,000 records of one catalogue each; `join` prints 200,000 rows, of which standard output
+takes 16 octets at a time, and `new` has that many changes.
 `gives-up` has a wrong body for each command, which its row here finds."""
 
 import os
@@ -21,8 +22,8 @@ from saved import COUNT, MARC21, SEEN, element, of_facts, record
 # a run has to end within so many seconds
 MOST = 300
 RECORDS = 100_000
-# of a file of catalogues
-TABLES = 10_000
+# of a file of catalogues, and of one that is long or full of mistakes
+TABLES, MANY = 10_000, 20_000
 # of a message for `show`: so many records of so many octets
 SHOWN, SIZE = 80, 12_480
 HERE = os.path.dirname(os.path.abspath(__file__))
@@ -108,6 +109,52 @@ def catalogues(zmeta, room):
     lines = "".join(f'{3 * it - 2} "c{it}" c{it}.example:210 "d"\n' for it in whole)
     name = made(room, "large.toml", file.encode())
     yield run(zmeta, room, ["catalogues", name]), (0, lines.encode(), b"")
+    yield from long_setting(zmeta, room)
+    yield from many_mistakes(zmeta, room)
+    yield from mistakes_of_one(zmeta, room)
+
+
+def long_setting(zmeta, room):
+    """A setting for all that is as long as there are catalogues: for each of them it is what keeps it out of a world
+    file."""
+    file = f'elements = "{"F" * MANY}"\n' + "".join(f'[c{it}]\naddress = "h"\ndatabase = "b"\n' for it in range(MANY))
+    name = made(room, "long.toml", file.encode())
+    told = f'zmeta: {name}: catalogue "c0": a world file has no element set names\n'
+    yield run(zmeta, room, ["catalogues", "--world", name, "--title", "a"]), (3, b"", told.encode())
+
+
+# what follows a key whose value is no address, or a missing one
+ADDRESS = 'write address = "host:port", the port from 1 to 65535'
+DATABASE = 'no database; write database = "name", or ["one", "two"] for several'
+
+
+def many_mistakes(zmeta, room):
+    """Each catalogue has no database, and a mistake in each of its three lines."""
+    file = "".join(f'[c{it}]\nadress = "h"\naddress = 1\nrecords = 0\n' for it in range(MANY))
+    name = made(room, "mistaken-all.toml", file.encode())
+    lines = []
+    for it in range(MANY):
+        front, catalogue = 4 * it + 1, f'catalogue "c{it}"'
+        lines += [(front, f"{catalogue}: {DATABASE}"),
+                  (front + 1, f'unknown key "adress" in "c{it}"; did you mean "address"?'),
+                  (front + 2, f"{catalogue}: address is of another type; {ADDRESS}"),
+                  (front + 3, f'{catalogue}: records is out of range; '
+                              'write records = 20, from 1 to 1000000, or "1-3,10-12"')]
+    yield run(zmeta, room, ["catalogues", name]), (3, b"", told_of(name, lines))
+
+
+def mistakes_of_one(zmeta, room):
+    """One catalogue has neither address nor database, and keys that are not known."""
+    file = "[town]\n" + "".join(f"key-{it} = 1\n" for it in range(MANY))
+    name = made(room, "mistaken-one.toml", file.encode())
+    lines = [(1, f'catalogue "town": no address; {ADDRESS}'), (1, f'catalogue "town": {DATABASE}')]
+    lines += [(it + 2, f'unknown key "key-{it}" in "town"') for it in range(MANY)]
+    yield run(zmeta, room, ["catalogues", name]), (3, b"", told_of(name, lines))
+
+
+def told_of(name, mistakes):
+    """What is told of a file with mistakes in these lines."""
+    return "".join(f"zmeta: {name}: line {line}: {it}\n" for line, it in mistakes).encode()
 
 
 def entries():

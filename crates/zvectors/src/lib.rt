@@ -9,6 +9,8 @@ mod arranged;
 #[cfg(test)]
 mod asking;
 #[cfg(test)]
+mod conversions;
+#[cfg(test)]
 mod failing;
 #[cfg(test)]
 mod heads;
