@@ -1,7 +1,7 @@
 #!/usr/bin/env python3
-"""Runs the program on rows, whole views, worlds, mutilated records, large input, hosts, a terminal, and streams, files
-and a clock that fail, or streams that are slow, talks to its server, replays traces, and compares what it prints with
-what is due; and the completions of command lines with rows and with its help.
+"""Runs the program on rows, whole views, worlds, mutilated records, large input, hosts, a terminal, and streams,
+files and a clock that fail, or streams that are slow, talks to its server, searches its targets, replays traces, and
+compares what it prints with what is due; and the completions of command lines with rows and with its help.
 
     python3 tests/program/check.py       (once the program is built; ZMETA may name another build)
 
@@ -46,6 +46,7 @@ import saving
 import served
 import stops
 import streams
+import targets
 import terminal
 import traces
 import views
@@ -220,6 +221,9 @@ def main():
         found, count = served.faults(ZMETA, room)
         faults += found
         print(f"program: {count} sessions with its server")
+        found, *counts = targets.faults(ZMETA, room)
+        faults += found
+        print("program: %d sessions with targets, %d rows of what they find, and %d searches" % tuple(counts))
         faults += charsets.faults(ZMETA, room)
         print(f"program: {len(charsets.VIEWS)} views of records in charsets of a file")
         faults += streams.faults(ZMETA, room)

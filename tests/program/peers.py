@@ -22,6 +22,8 @@ from streams import make_narrow
 END = 60
 # seconds before a delayed octet
 DELAY = 0.2
+# the attribute set bib-1
+ATTRIBUTES = "1.2.840.10003.3.1"
 IN_ORDER, AT_ONCE = False, True
 BOTH = (IN_ORDER, AT_ONCE)
 
@@ -41,13 +43,18 @@ def operand(text):
     return element(b"\xa0", element(b"\xbf\x66", element(b"\xbf\x2c"), element(b"\x9f\x2d", text.encode())))
 
 
-def search(number, name, databases, text, small=0, large=1):
-    """A search of databases for a text, into a result set of this name. The bounds of small and large sets say whether
-    it asks for records."""
+def searching(number, name, databases, query, small=0, large=1):
+    """A search of databases, into a result set of this name, by the element around a query. The bounds of small and
+    large sets say whether it asks for records."""
     named = element(b"\xb2", *(element(b"\x9f\x69", it.encode()) for it in databases))
-    query = element(b"\xb5", element(b"\xa1", object_identifier("1.2.840.10003.3.1"), operand(text)))
     bounds = integer(b"\x8d", small), integer(b"\x8e", large), integer(b"\x8f", 0), bytes.fromhex("9001ff")
     return element(b"\xb6", operation(number), *bounds, element(b"\x91", name), named, query)
+
+
+def search(number, name, databases, text, small=0, large=1):
+    """A search of databases for a text."""
+    query = element(b"\xb5", element(b"\xa1", object_identifier(ATTRIBUTES), operand(text)))
+    return searching(number, name, databases, query, small, large)
 
 
 def present(number, name, start, many, *ranges):

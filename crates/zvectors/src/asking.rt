@@ -1,7 +1,7 @@
 //! Asking hosts in memory under a clock that only waiting moves: runs by seed. Some hosts answer; others refuse, are
 //! silent, die, lie or trickle.
 mod agenda;
-mod catalogues;
+pub(crate) mod catalogues;
 mod conduct;
 pub(crate) mod fault;
 mod judge;

@@ -33,6 +33,8 @@ mod states;
 #[cfg(test)]
 mod talks;
 #[cfg(test)]
+mod targets;
+#[cfg(test)]
 mod told;
 #[cfg(test)]
 mod traces;

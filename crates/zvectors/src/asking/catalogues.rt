@@ -27,7 +27,8 @@ pub(crate) fn record_text(alloc: Global, c: u32, position: u32) -> Result<Bytes,
     }
 }
 
-fn entry(alloc: Global, c: u32, position: u32) -> Result<Entry, Fault> {
+/// An entry with the title `dune`.
+pub(crate) fn titled(alloc: Global, octets: Bytes) -> Result<Entry, Fault> {
     let Ok(syntax) = Oid::from_arcs(alloc, &SYNTAX) else {
         return Err(Fault::Unread);
     };
@@ -38,20 +39,31 @@ fn entry(alloc: Global, c: u32, position: u32) -> Result<Entry, Fault> {
     let fields = vec![in alloc; field]?;
     Ok(Entry {
         syntax,
-        octets: record_text(alloc, c, position)?,
+        octets,
         fields: Seq::from_vec(fields),
     })
 }
 
-fn database(alloc: Global, c: u32, records: u32) -> Result<Database, Fault> {
-    let mut entries = Vec::new(alloc);
-    for k in 0..records {
-        entries.push(entry(alloc, c, k.saturating_add(1))?)?;
+/// A target with a database `d` of these entries.
+pub(crate) fn target_of(
+    alloc: Global,
+    entries: Vec<Entry>,
+    settings: TargetSettings,
+) -> Result<Target, Fault> {
+    if entries.len() > 1_000_000 {
+        return Err(Fault::Unread);
     }
-    Ok(Database {
+    let database = Database {
         name: Bytes::from_static(b"d"),
         entries: Seq::from_vec(entries),
-    })
+    };
+    let Ok(databases) = vec![in alloc; database] else {
+        return Err(Fault::Unread);
+    };
+    match Target::new(alloc, databases, settings) {
+        Ok(target) => Ok(target),
+        Err(_) => Err(Fault::Unread),
+    }
 }
 
 /// A host with a database `d` of so many records that each question finds.
@@ -62,17 +74,11 @@ pub(crate) fn host(alloc: Global, c: u32, records: u32) -> Result<Host, Fault> {
         named: true,
         refuse: false,
     };
-    let database = database(alloc, c, records)?;
-    if database.entries.len() > 1_000_000 {
-        return Err(Fault::Unread);
+    let mut entries = Vec::new(alloc);
+    for k in 0..records {
+        entries.push(titled(alloc, record_text(alloc, c, k.saturating_add(1))?)?)?;
     }
-    let Ok(databases) = vec![in alloc; database] else {
-        return Err(Fault::Unread);
-    };
-    match Target::new(alloc, databases, settings) {
-        Ok(target) => Ok(Host::new(alloc, target)),
-        Err(_) => Err(Fault::Unread),
-    }
+    Ok(Host::new(alloc, target_of(alloc, entries, settings)?))
 }
 
 // The first ten positions.
