@@ -22,8 +22,8 @@ from saved import COUNT, MARC21, SEEN, element, of_facts, record
 # a run has to end within so many seconds
 MOST = 300
 RECORDS = 100_000
-# of a file of catalogues, and of one that is long or full of mistakes
-TABLES, MANY = 10_000, 20_000
+# of a file of catalogues, of one that is long or full of mistakes, and of a world file that is printed as one
+TABLES, MANY, HOSTS = 10_000, 20_000, 1000
 # of a message for `show`: so many records of so many octets
 SHOWN, SIZE = 80, 12_480
 HERE = os.path.dirname(os.path.abspath(__file__))
@@ -112,6 +112,15 @@ def catalogues(zmeta, room):
     yield from long_setting(zmeta, room)
     yield from many_mistakes(zmeta, room)
     yield from mistakes_of_one(zmeta, room)
+    yield from many_hosts(zmeta, room)
+
+
+def many_hosts(zmeta, room):
+    world = "".join(f"host n{it} h:210\nask n{it} d - 10 dune\n" for it in range(HOSTS))
+    settings = 'address = "h:210"\ndatabase = "d"\nrecords = "1-10"\nquery = "\\"dune\\""\n'
+    tables = "".join(f"\n[n{it}]\n{settings}" for it in range(HOSTS))
+    name = made(room, "hosts-all.world", world.encode())
+    yield run(zmeta, room, ["catalogues", "--toml", name]), (0, f"step = 10\nwindow = 4\n{tables}".encode(), b"")
 
 
 def long_setting(zmeta, room):

@@ -88,14 +88,19 @@ def requested(position):
     return operation(position + 1)
 
 
-def given(position, *texts, more=b""):
+def given(position, *texts, more=b"", status="9b0100"):
     """A Present response to the request that begins at the position, with records."""
-    return listed(requested(position), len(texts), [record(MARC21, it.encode()) for it in texts], more)
+    return listed(requested(position), len(texts), [record(MARC21, it.encode()) for it in texts], more, status)
 
 
-def listed(reference, returned, records, more=b""):
+def listed(reference, returned, records, more=b"", status="9b0100"):
     records = element(b"\xbc", *records) if records else b""
-    return element(b"\xb9", reference, integer(b"\x98", returned), hexadecimal("990100 9b0100"), records, more)
+    return element(b"\xb9", reference, integer(b"\x98", returned), hexadecimal("990100 " + status), records, more)
+
+
+def short(position, *texts):
+    """A Present response with fewer records than were asked for, which says so."""
+    return given(position, *texts, status="9b0102")
 
 
 def as_many(*diagnostics):
@@ -152,6 +157,8 @@ GOOD = [
           known=[count(2), unseen(1, 14, "x"), seen(2, "r2")]),
     whole("diagnostic", TWO, given(1, more=non_surrogate(13, "1")), OTHER,
           known=[count(2), noted(1, 13, "1"), seen(2, "r2")]),
+    whole("diagnostics", TWO, given(1, more=as_many(diagnostic(BIB1, 13), diagnostic(BIB1, 30, "1"))), OTHER,
+          known=[count(2), noted(1, 13), noted(1, 30, "1"), seen(2, "r2")]),
     whole("warning", found("02", more=non_surrogate(2)), ONE, OTHER,
           known=[count(2), noted(0, 2), seen(1, "r1"), seen(2, "r2")]),
     whole("unasked", found("02", 1, more=element(b"\xbc", record(MARC21, b"r0"))), ONE, OTHER,
@@ -190,7 +197,43 @@ RANGED = [
                            *(given(it, f"r{it}") for it in [*FEWER[63::-1], *FEWER[64:]]), CLOSE],
         "I S " + " ".join(f"{it}x1" for it in FEWER) + " C", all_seen(159, FEWER),
         want=",".join(f"{it}-{it}" for it in FEWER)),
+    # all records of two ranges; an answer that ends within a range; diagnostics in place of the records of ranges
+    whole("whole ranges", counted(7), given(1, "r1", "r2", "r5"), known=all_seen(7, (1, 2, 5)),
+          requests="I S 1x2,5x1 C", want="1-2,5-5"),
+    whole("within a range", counted(7), given(1, "r1", "r2", "r5"), given(6, "r6"), known=all_seen(7, (1, 2, 5, 6)),
+          requests="I S 1x2,5x2 6x1 C", want="1-2,5-6"),
+    whole("ranges failing", counted(7), given(1, more=non_surrogate(13)), known=[count(7), noted(1, 13)],
+          requests="I S 1x2,5x1 C", want="1-2,5-5"),
+    whole("ranges failing twice", counted(7),
+          given(3, more=as_many(diagnostic(BIB1, 13), diagnostic(BIB1, 30, "1"))),
+          known=[count(7), noted(3, 13), noted(3, 30, "1")], requests="I S 3x2,6x1 C", want="3-4,6-6"),
 ]
+
+# The same of a set of seven, of which a Present asks for three records, and four Presents wait at most: each answer has
+# two records, or one; and positions 1, 2 and 5 to 7 are wanted, also without version 3.
+SEVEN = all_seen(7, range(1, 8))
+STEPPED = [
+    whole("two at most", counted(7), short(1, "r1", "r2"), short(4, "r4", "r5"), given(3, "r3"), given(6, "r6"),
+          given(7, "r7"), known=SEVEN, requests="I S 1x3 4x3 7x1 3x1 6x1 C", want="10"),
+    whole("one at most", counted(7), short(1, "r1"), short(4, "r4"), short(2, "r2"), short(5, "r5"), given(3, "r3"),
+          given(6, "r6"), given(7, "r7"), known=SEVEN, requests="I S 1x3 4x3 7x1 2x2 5x2 3x1 6x1 C", want="10"),
+    whole("parted", counted(7), short(1, "r1", "r2"), given(6, "r6", "r7"), given(5, "r5"),
+          known=all_seen(7, (1, 2, 5, 6, 7)), requests="I S 1x2,5x1 6x2 5x1 C", want="1-2,5-7"),
+    Row("parted, version 2", [init_reply(SECOND), counted(7), short(1, "r1", "r2"), given(5, "r5"),
+                              given(6, "r6", "r7"), CLOSE],
+        "I S 1x2 5x1 6x2 C", all_seen(7, (1, 2, 5, 6, 7)), want="1-2,5-7"),
+]
+
+
+def window(size, first):
+    """So many Presents wait: the replies from this place on come first, and then the others."""
+    places = [*range(1, size + 1)]
+    replies = [given(it, f"r{it}") for it in places[first:] + places[:first]]
+    return whole(f"window {size} {first}", counted(100), *replies, known=all_seen(100, places),
+                 requests="I S " + " ".join(f"{it}x1" for it in places) + " C", want=str(size))
+
+
+WINDOWS = [window(*it) for it in ((1, 0), (2, 1), (3, 2), (63, 31), (64, 1), (64, 32), (64, 63))]
 
 # Replies of which the last is refused, or ends the association before its time.
 BAD = [
@@ -235,7 +278,8 @@ BAD = [
 ]
 
 # what stands in front of the world file, the rows, and the status
-GROUPS = ((SMALL, GOOD, 0), (GREAT, RANGED, 0), (SMALL, BAD, 1))
+THREES, WIDE = "step 3\nwindow 4\n", "step 1\nwindow 64\n"
+GROUPS = ((SMALL, GOOD, 0), (GREAT, RANGED, 0), (THREES, STEPPED, 0), (WIDE, WINDOWS, 0), (SMALL, BAD, 1))
 
 
 # what is due

@@ -4,8 +4,8 @@ rows of `rows/targets.rows`; and searches of no kind in particular, with a model
 
     ZMETA=PROGRAM python3 tests/program/targets.py
 
-A row of `matched` is run as a world. The others are sent to `zmeta serve`, and so are the searches, each with all records
-that are found."""
+A row of `matched` is run as a world. The others are sent to `zmeta serve`, and so are the searches, each with all
+records that are found."""
 
 import os
 import random
@@ -14,8 +14,11 @@ import socket
 import subprocess
 import sys
 import tempfile
+import time
 
-from peers import ACCEPTED, ATTRIBUTES, CLOSE, END, INIT, connected, found, free_port, received, searching
+from peers import (
+    ACCEPTED, ATTRIBUTES, CLOSE, END, INIT, connected, found, free_port, init_reply, received, search, searching,
+)
 from saved import MARC21, element, integer, object_identifier, record
 from served import unfound
 
@@ -24,10 +27,13 @@ WORLDS = 500
 # the largest size of a set of which all records come with the response
 ALL = 1000
 MANY = 10_000
+# seconds behind each piece of a request
+REST = 0.001
 
-# The libraries of sessions: the entries of the database `d`, their octets and fields. The database `e` has one entry.
+# The libraries of sessions: the entries of the database `d`, their octets and fields, if there are databases. The
+# database `e` has one entry.
 DUNE = ["4 dune"]
-LIBRARIES = {"one": {"hi": DUNE}, "three": {"c1": DUNE, "c2": DUNE, "c3": DUNE}}
+LIBRARIES = {"none": None, "one": {"hi": DUNE}, "three": {"c1": DUNE, "c2": DUNE, "c3": DUNE}}
 FOURTH = {"thirty octets of one record  .": ["4 Dune messiah", "1003 Herbert"]}
 # The databases of rows, by the first words of these.
 PLACED = {"a": {"a0": ["4 one"], "a1": ["4 two"]}, "b": {"b0": ["4 one dune"], "b1": DUNE, "b2": DUNE}}
@@ -73,13 +79,12 @@ def written(room, name, octets):
     return name
 
 
-class Server:
-    """`zmeta serve` with a target `t`, for so many connections."""
+class Served:
+    """`zmeta serve` with a target of a world file, for so many connections."""
 
-    def __init__(self, zmeta, room, settings, databases, connections):
+    def __init__(self, zmeta, room, name, world, connections):
         self.port = free_port()
-        world = written(room, f"target-{self.port}.world", target_lines("t", settings, databases))
-        words = [zmeta, "serve", f"127.0.0.1:{self.port}", "t", world, str(connections)]
+        words = [zmeta, "serve", f"127.0.0.1:{self.port}", name, world, str(connections)]
         self.process = subprocess.Popen(words, stdout=subprocess.PIPE, stderr=subprocess.PIPE, cwd=room)
 
     def __enter__(self):
@@ -98,10 +103,18 @@ class Server:
         return None if ended == (b"", b"", 0) else str(ended)
 
 
-def answer(link, request, due):
-    """What comes for a request where so much is due: no octets if the server ends the connection."""
+def serving(zmeta, room, settings, databases, connections):
+    """A target with these settings and databases is served."""
+    world = written(room, "served.world", target_lines("t", settings, databases))
+    return Served(zmeta, room, "t", world, connections)
+
+
+def answer(link, pieces, due):
+    """What comes for a request in pieces where so much is due: no octets if the server ends the connection."""
     try:
-        link.sendall(request)
+        for it in pieces:
+            link.sendall(it)
+            time.sleep(REST)
         return received(link, max(1, len(due)))
     except ConnectionError:
         return b""
@@ -111,23 +124,28 @@ def answer(link, request, due):
 
 
 def sessions():
-    """Each session: its row, and its requests with their replies."""
+    """Each session: its row, and its requests with their replies; None where the server waits for more."""
     found = []
     for row in rows_of("served"):
         if row.startswith("new "):
             found.append((row, []))
         else:
-            found[-1][1].append([bytes.fromhex(it) if it != "-" else b"" for it in row.split(" = ")])
+            request, due = row.split(" = ")
+            reply = None if due == ".." else b"" if due == "-" else bytes.fromhex(due)
+            found[-1][1].append(([*map(bytes.fromhex, request.split())], reply))
     return found
 
 
 def fault_of_session(port, steps):
     """The first reply that differs, if one does."""
     with connected(port) as link:
-        for request, due in steps:
-            got = answer(link, request, due)
+        for pieces, due in steps:
+            if due is None:
+                link.sendall(b"".join(pieces))
+                continue
+            got = answer(link, pieces, due)
             if got != due:
-                return f"{request.hex()} = {got.hex()}, and {due.hex()} is due"
+                return f"{b' '.join(pieces).hex()} = {got.hex()}, and {due.hex()} is due"
         try:
             link.shutdown(socket.SHUT_WR)
             rest = received(link, 1 << 20)
@@ -142,13 +160,53 @@ def faults_of_sessions(zmeta, room):
         by_row.setdefault(row, []).append(steps)
     for row, each in by_row.items():
         library, settings = row.split(" ", 2)[1:]
-        databases = {"d": LIBRARIES[library], "e": FOURTH}
-        with Server(zmeta, room, settings, databases, len(each)) as server:
+        databases = {"d": LIBRARIES[library], "e": FOURTH} if LIBRARIES[library] else {}
+        with serving(zmeta, room, settings, databases, len(each)) as server:
             try:
                 told = [fault_of_session(server.port, steps) for steps in each] + [server.fault()]
             except TimeoutError as error:
                 told = [repr(error)]
             yield from (f"{row}: {it}" for it in told if it)
+
+
+# a world file whose targets are served
+
+SMALL = b"""step 3
+window 7
+window 4
+target a 48 cn
+db d
+rec 1.2.840.10003.5.10 a1
+field 4 emma
+rec 1.2.840.10003.5.10 a2
+db e
+host b h:210
+target c 4096 r
+ask c d - 10 \"@attr 1=4 dune\"
+ask b d 1.2.840.10003.5.10 0 dune
+ask a e - 1-2,5-7 emma
+to a 100
+rel c 2
+from a 1"""
+
+
+def sessions_of_small():
+    """Of each target its settings, its databases, and what is found there."""
+    first = [(INIT, init_reply(sizes="850130 860130")),
+             (search(1, b"1", ["d"], "emma", ALL, ALL + 1), all_found([("a1", "d")])),
+             (search(1, b"2", ["e"], "emma"), found(1, 0, 0)),
+             (search(1, b"3", ["f"], "emma"), unfound(1, 235, "f"))]
+    second = [(INIT, init_reply(options="840301c000", sizes="85021000 86021000", result="8c0100"))]
+    return {"a": first, "c": second}
+
+
+def faults_of_small(zmeta, room):
+    world = written(room, "small.world", SMALL)
+    for name, steps in sessions_of_small().items():
+        with Served(zmeta, room, name, world, 1) as server:
+            fault = fault_of_session(server.port, [([request], due) for request, due in steps]) or server.fault()
+            if fault:
+                yield f"small world, {name}: {fault}"
 
 
 # rows that are run
@@ -211,14 +269,14 @@ def element_of(zmeta, query):
 
 def searched(zmeta, room, databases, searches):
     """What differs of searches, each of names and the element around its query, with the reply that is due."""
-    with Server(zmeta, room, "1048576 cn", databases, 1) as server, connected(server.port) as link:
-        if answer(link, INIT, ACCEPTED) != ACCEPTED:
+    with serving(zmeta, room, "1048576 cn", databases, 1) as server, connected(server.port) as link:
+        if answer(link, [INIT], ACCEPTED) != ACCEPTED:
             yield "Init"
         for told, names, query, due in searches:
-            got = answer(link, searching(1, b"1", names, query, ALL, ALL + 1), due)
+            got = answer(link, [searching(1, b"1", names, query, ALL, ALL + 1)], due)
             if got != due:
                 yield f"{told}: {got.hex()}\n    {due.hex()} is due"
-        if answer(link, CLOSE, CLOSE) != CLOSE:
+        if answer(link, [CLOSE], CLOSE) != CLOSE:
             yield "Close"
         fault = server.fault()
         if fault:
@@ -359,20 +417,21 @@ def any_searches():
 def faults(zmeta, room):
     """What is not as it should be, and how many sessions, rows and searches there were."""
     rows, (databases, searches) = tables(), any_searches()
-    found_ = [*faults_of_sessions(zmeta, room), *faults_of_matched(zmeta, room, rows["matched"])]
-    found_ += faults_of_many(zmeta, room)
-    found_ += searched(zmeta, room, PLACED, placed(zmeta, rows["placed"]))
-    found_ += searched(zmeta, room, REPEATED, repeated(rows["repeated"]))
-    found_ += searched(zmeta, room, FAULTS, failed(zmeta, rows["fault"]))
-    found_ += searched(zmeta, room, databases, searches)
-    return found_, len(sessions()), sum(map(len, rows.values())), len(searches)
+    wrong = [*faults_of_sessions(zmeta, room), *faults_of_small(zmeta, room)]
+    wrong += faults_of_matched(zmeta, room, rows["matched"])
+    wrong += faults_of_many(zmeta, room)
+    wrong += searched(zmeta, room, PLACED, placed(zmeta, rows["placed"]))
+    wrong += searched(zmeta, room, REPEATED, repeated(rows["repeated"]))
+    wrong += searched(zmeta, room, FAULTS, failed(zmeta, rows["fault"]))
+    wrong += searched(zmeta, room, databases, searches)
+    return wrong, len(sessions()), sum(map(len, rows.values())), len(searches)
 
 
 def main():
     with tempfile.TemporaryDirectory() as room:
-        found_, *counts = faults(os.path.abspath(os.environ["ZMETA"]), room)
-    print(counts, *found_, sep="\n")
-    return 1 if found_ else 0
+        wrong, *counts = faults(os.path.abspath(os.environ["ZMETA"]), room)
+    print(counts, *wrong, sep="\n")
+    return 1 if wrong else 0
 
 
 if __name__ == "__main__":

@@ -1,21 +1,12 @@
-// Worlds that are arranged, and others that put a question to a host.
+// Worlds that are arranged.
 ghost use Rattle.std.specs.Prelude.{IfOk};
 ghost use Rattle.zmeta_world.specs.InMemoryRuns.{CanBeRun};
 
 use bytes::Bytes;
 use std::alloc::{AllocError, Global};
 use std::process::Abort;
-use std::test::Fail;
-use zber_rows::rows::{each_row, halves, unescape};
-use zber_rows::unread::Unread;
 use zmeta_world::in_memory::InMemoryRun;
 use zmeta_world::world::{WorldError, read_world};
-
-// A file, and the number of the line with a question to a host.
-const HOSTED: &str = "\
-host a h:210%0aask a d - 1 dune => 2
-target a 1 -%0ahost b h:210%0aask a d - 1 dune%0a%0aask b d - 1 dune%0a => 5
-";
 
 const TWO: &[u8] = b"step 3
 window 5
@@ -37,26 +28,6 @@ pub(crate) fn in_memory(alloc: Global, file: &[u8]) -> Result<InMemoryRun, World
     let name = Bytes::copy_from_slice(alloc, b"zmeta")?;
     let world = read_world(alloc, file)?;
     world.in_memory(alloc, name)
-}
-
-fn fault(alloc: Global, file: &[u8]) -> Option<WorldError> {
-    in_memory(alloc, file).err()
-}
-
-fn is_hosted(alloc: Global, row: &str) -> Result<bool, Unread> {
-    let (file, line) = halves(row);
-    let Ok(file) = unescape(alloc, file) else {
-        return Err(Unread);
-    };
-    let Ok(line) = line.parse::<u64>() else {
-        return Err(Unread);
-    };
-    Ok(fault(alloc, file.as_slice()) == Some(WorldError::Refused { line }))
-}
-
-#[test]
-fn a_question_to_a_host_is_refused(rt: HostRuntime) -> Result<(), Fail> {
-    each_row(rt.alloc(), HOSTED, is_hosted)
 }
 
 /// Whether octets are those of a text.

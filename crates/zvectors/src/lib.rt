@@ -3,8 +3,6 @@
 #![tactic(auto)]
 
 #[cfg(test)]
-mod answers;
-#[cfg(test)]
 mod arranged;
 #[cfg(test)]
 mod asking;
@@ -14,10 +12,6 @@ mod conversions;
 mod failing;
 #[cfg(test)]
 mod heads;
-#[cfg(test)]
-mod hosts;
-#[cfg(test)]
-mod metas;
 #[cfg(test)]
 mod moves;
 #[cfg(test)]
@@ -38,7 +32,5 @@ mod targets;
 mod told;
 #[cfg(test)]
 mod traces;
-#[cfg(test)]
-mod windows;
 #[cfg(test)]
 mod worlds;

@@ -4,7 +4,6 @@ mod pooled;
 mod ranges;
 mod replies;
 
-use crate::answers::facts_row;
 use crate::states::origin_text;
 use bytes::Bytes;
 use std::alloc::{AllocError, Global};
@@ -304,7 +303,6 @@ pub(crate) fn answer(alloc: Global, origin: &mut Origin, step: &str) -> Result<S
         "state" => read(state(alloc, origin)),
         "take" => take_row(alloc, origin, row),
         "peek" => peek_row(alloc, origin, row),
-        "facts" => facts_row(alloc, origin, row),
         _ => call_row(alloc, origin, step),
     }
 }

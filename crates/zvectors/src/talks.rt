@@ -2,7 +2,7 @@
 ghost use Rattle.std.specs.Prelude.{◌<◌, length, IfOk};
 ghost use Rattle.zoom_questions.specs.Askable.{IsAskable};
 
-use crate::hosts::host;
+use crate::asking::catalogues::host;
 use crate::states::state_text;
 use bytes::Bytes;
 use std::alloc::{AllocError, Global};
@@ -253,7 +253,10 @@ fn answer_text(
     sink: &mut Counting<Kept>,
     reads: u32,
 ) -> Result<String, Unread> {
-    let Ok(mut host) = host(alloc) else {
+    let Ok(host) = host(alloc, 0, 0) else {
+        return Err(Unread);
+    };
+    let Ok(mut host) = box_value(alloc, host) else {
         return Err(Unread);
     };
     let answer = answer(alloc, &mut host, source, sink, reads);

@@ -1,7 +1,12 @@
 // Which calls an origin admits, and which association stands after Init (Z39.50-2003, 3.2.1 and 3.4).
-use crate::sessions::go_as_told;
 use crate::sessions::pooled::go_through_pool;
+use crate::sessions::{answer, go_as_told, origin_of};
+use bytes::Bytes;
+use std::alloc::Global;
+use std::process::Abort;
 use std::test::Fail;
+use zber_rows::rows::tells;
+use zber_rows::unread::Unread;
 
 const SESSIONS: &str = "\
 # Requests, octet for octet; replies in another order than their requests.
@@ -206,4 +211,20 @@ fn calls_are_answered_as_told(rt: HostRuntime) -> Result<(), Fail> {
 #[test]
 fn calls_of_a_pool_are_answered_as_told(rt: HostRuntime) -> Result<(), Fail> {
     go_through_pool(&rt, SESSIONS)
+}
+
+// Whether Init is refused for a name of so many octets.
+fn is_unsendable(alloc: Global, len: usize) -> Result<bool, Unread> {
+    let name = Bytes::from_vec(vec![in alloc; b'a'; len]?)?;
+    let Ok(mut origin) = origin_of(alloc, name) else {
+        return Err(Unread);
+    };
+    Ok(tells(answer(alloc, &mut origin, "init -"), "Unsendable"))
+}
+
+#[test]
+fn a_long_name_is_not_sent(rt: HostRuntime) -> Result<(), Fail> {
+    assert!(rt; matches!(is_unsendable(rt.alloc(), 2_097_152), Ok(true)));
+    assert!(rt; matches!(is_unsendable(rt.alloc(), 2_097_100), Ok(false)));
+    Ok(())
 }
