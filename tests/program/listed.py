@@ -5,8 +5,7 @@ which is gone through for each line.
     ZMETA=PROGRAM python3 tests/program/listed.py
 
 Facts of few keys meet often. Files have them in parts of so many, taken in an order of no kind in particular; one part
-after the other stands before or behind those that are there. The facts are those of
-crates/zknow_tests/src/shuffled.rt."""
+after the other stands before or behind those that are there."""
 
 import os
 import subprocess
@@ -133,13 +132,13 @@ def joined(zmeta, room, *words):
 
 
 def faults_of_two(zmeta, room):
-    """Two files, either way; the definition has the same list."""
+    """Two files, either way, and the second twice; the definition has the same list."""
     for one, other, due in ((FIRST, SECOND, AGREED), (FIRST, OTHER, CONFLICT)):
         rows = (*one.split("; ")[1:], *other.split("; ")[1:])
         model = list_of([saved.of_row(it) for it in rows])
         for name, text in (("one", one), ("other", other)):
             write(os.path.join(room, name), saved.of_rows(text))
-        for words in (("one", "other"), ("other", "one")):
+        for words in (("one", "other"), ("other", "one"), ("one", "other", "other"), ("other", "one", "one")):
             found = joined(zmeta, room, *words)
             if found != (0, due.encode(), b"") or model != due:
                 yield f"listed, {words}: {found}, by definition {model}"

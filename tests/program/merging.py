@@ -26,6 +26,8 @@ LARGE, RECORD, MOST = 60_000, 200, 8_000
 # no file may be larger than so many octets: a merged one is
 SMALL = 100
 OLDER = b"an older file"
+# the octets of the longest element of a saved file
+LONGEST = 4_194_304
 
 
 def names(count):
@@ -228,6 +230,23 @@ def failing(zmeta, room):
         yield f"merging left {left}"
 
 
+def longest(zmeta, room):
+    """An element of 4,194,304 octets is the longest, in files that are merged, and in those that are listed."""
+    refused = 3, b"", b"zmeta: knowledge refused: NotKnowledge at 0\n"
+    for size, due in ((LONGEST, (0, b"", b"")), (LONGEST + 1, refused)):
+        # one name, behind two headers of five octets
+        file = element(b"\xa4", element(b"\x80", b"n" * (size - 10)))
+        write(os.path.join(room, "long"), file)
+        for number, words in enumerate((["--quiet", "long", "long"], ["long"], ["/dev/stdin"])):
+            made = f"longest{number}-{size}"
+            ran = subprocess.run([zmeta, "join", "--save", made, *words], input=file, capture_output=True, cwd=room,
+                                 timeout=300, check=False)
+            path = os.path.join(room, made)
+            there = octets_at(path) if os.path.exists(path) else None
+            if (ran.returncode, ran.stdout, ran.stderr) != due or there != (None if due == refused else file):
+                yield f"merging, an element of {size} octets, {words}: {ran.returncode} {ran.stderr}"
+
+
 def faults(zmeta):
     with tempfile.TemporaryDirectory() as room:
         yield from random_merges(zmeta, room)
@@ -235,6 +254,7 @@ def faults(zmeta):
         yield from tree_merge(zmeta, room)
         yield from large_merge(zmeta, room)
         yield from failing(zmeta, room)
+        yield from longest(zmeta, room)
 
 
 def main():

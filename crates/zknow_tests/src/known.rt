@@ -1,9 +1,10 @@
-// What is known: facts in every order, twice, absorbed and copied; two values at one place.
+// What is known: facts in every order, twice, absorbed and copied; two values at one place. tests/program/listed.py has
+// facts of few keys, in files that are joined.
 use crate::facts::{add, copy_of, has_facts, is_at, is_count, knowledge_of, nothing};
 use std::alloc::{AllocError, Global};
 use std::process::Abort;
 use std::test::Fail;
-use zber_rows::rows::{each_row, halves, is_true, pair, unescape};
+use zber_rows::rows::{each_row, halves, pair, unescape};
 use zber_rows::unread::Unread;
 use zknow::{Knowledge, Mode};
 use zknow_rows::shown::{has_list, is_listed};
@@ -64,7 +65,7 @@ fn add_at(
     }
 }
 
-pub(crate) fn add_in_order(
+fn add_in_order(
     alloc: Global,
     knowledge: &mut Knowledge,
     rows: &[&str],
@@ -129,56 +130,6 @@ fn records_that_differ_have_one_list_in_every_order(rt: HostRuntime) -> Result<(
     Ok(())
 }
 
-// Whether a copy has the list.
-fn is_copied(alloc: Global, knowledge: &Knowledge, due: &str) -> bool {
-    match copy_of(alloc, knowledge) {
-        Ok(copy) => is_listed(alloc, &copy, "a", Mode::Text, due),
-        Err(_) => false,
-    }
-}
-
-// Whether a knowledge has the list once it has absorbed another, and still once it has absorbed it again.
-fn absorbs(alloc: Global, knowledge: &mut Knowledge, other: &Knowledge, due: &str) -> bool {
-    knowledge.absorb(other).is_ok()
-        && is_copied(alloc, knowledge, due)
-        && knowledge.absorb(other).is_ok()
-        && is_listed(alloc, knowledge, "a", Mode::Text, due)
-}
-
-fn absorbs_rows(alloc: Global, knowledge: &mut Knowledge, rows: &str, due: &str) -> bool {
-    let Ok(other) = knowledge_of(alloc, rows) else {
-        return false;
-    };
-    absorbs(alloc, knowledge, &other, due)
-}
-
-fn is_joined(alloc: Global, first: &str, second: &str, due: &str) -> bool {
-    let Ok(mut knowledge) = knowledge_of(alloc, first) else {
-        return false;
-    };
-    absorbs_rows(alloc, &mut knowledge, second, due)
-}
-
-// Whether the facts of a search and a request, and of it and another one, have the list, joined either way.
-fn is_joined_either_way(alloc: Global, first: &str, second: &str, due: &str) -> bool {
-    let left = format!(in alloc; "{SEARCH}\n{first}");
-    let right = format!(in alloc; "{SEARCH}\n{second}");
-    match (left, right) {
-        (Ok(left), Ok(right)) => {
-            is_joined(alloc, left.as_str(), right.as_str(), due)
-                && is_joined(alloc, right.as_str(), left.as_str(), due)
-        }
-        _ => false,
-    }
-}
-
-#[test]
-fn joined_either_way_the_list_is_the_same(rt: HostRuntime) -> Result<(), Fail> {
-    assert!(rt; is_joined_either_way(rt.alloc(), FIRST, SECOND, AGREED));
-    assert!(rt; is_joined_either_way(rt.alloc(), FIRST, OTHER, CONFLICT));
-    Ok(())
-}
-
 // Adds the fact of a row, once more where memory was refused.
 fn adds(alloc: Global, knowledge: &mut Knowledge, row: &str) -> bool {
     add(alloc, knowledge, row).is_ok() || add(alloc, knowledge, row).is_ok()
@@ -221,12 +172,15 @@ seen 0 1 1 hi;seen 0 1 1 ~hi; => list a => 1 \"a\" 1 rec 1.2.840.10003.5.10 - \"
 seen 0 1 1 hi;seen 0 1 1 3017a115a113281106072a8648ce13050aa106040168040169; => at 1 =>  one 3013a111a10f280d06072a8648ce13050a81026869
 # Records and counts in conflict stand in order.
 seen 0 1 1 x2;seen 0 1 1 r2;seen 0 1 1 ~x2; => at 1 =>  conflict 3013a111a10f280d06072a8648ce13050a81027232 3013a111a10f280d06072a8648ce13050a81027832
+seen 0 1 1 x2;seen 0 1 1 r2;seen 0 1 1 ~x2; => list a => 1 \"a\" 1 conflict 2%0a  rec 1.2.840.10003.5.10 - \"r2\"%0a  rec 1.2.840.10003.5.10 - \"x2\"%0a
 count 0 1 5;count 0 1 4;count 0 1 5;count 1 1 0; => count 0 1 =>  conflict 4 5
 count 0 1 5;count 0 1 4;count 0 1 5;count 1 1 0; => count 1 1 =>  one 0
 count 0 1 5;count 0 1 4;count 0 1 5;count 1 1 0; => count 0 2 =>  nothing
 count 0 1 5;count 0 1 4;count 0 1 5;count 1 1 0; => list a b => target \"a\" set 1 count 4%0atarget \"a\" set 1 count 5%0atarget \"b\" set 1 count 0%0a
 # Facts stand in order, and once.
 seen 0 1 4 r4;seen 0 1 2 r2;count 0 1 4;seen 0 1 3 r3;seen 0 1 2 ~r2;seen 0 1 1 r1;seen 0 1 4 r4;count 0 1 4; => facts - =>  count 0 1 4 seen 0 1 1 3013a111a10f280d06072a8648ce13050a81027231 seen 0 1 2 3013a111a10f280d06072a8648ce13050a81027232 seen 0 1 3 3013a111a10f280d06072a8648ce13050a81027233 seen 0 1 4 3013a111a10f280d06072a8648ce13050a81027234
+# Each kind of fact, of record and of diagnostic, of several targets and sets: counts, failures, records, diagnostics.
+seen 2 1 3 3014800164a10fa10d280b06072a8648ce13050a8100;seen 0 1 3 3016800164a111a10f280d06072a8648ce13050a8102225c;seen 0 2 1 301a800164a115a213301106072a8648ce130401020200ee1b02225c;seen 0 1 2 300ca10aa1082806020105810161;seen 0 1 1 3013a111a10f280d06072a8648ce13050a81020aff;seen 1 1 1 3005a103830161;failed 2 0 -;failed 0 1 -;count 0 2 3;count 0 1 7;diag 0 1 4 301006072a8648ce13040102010d1b026869;diag 0 1 0 301006072a8648ce13040102010e1a026869;diag 0 1 0 28048102686a;diag 1 1 0 300e06072a8648ce13040102010d1a00; => facts - =>  count 0 1 7 count 0 2 3 failed 0 1 failed 2 0 seen 0 1 1 3013a111a10f280d06072a8648ce13050a81020aff seen 0 1 2 300ca10aa1082806020105810161 seen 0 1 3 3016800164a111a10f280d06072a8648ce13050a8102225c seen 0 2 1 301a800164a115a213301106072a8648ce130401020200ee1b02225c seen 1 1 1 3005a103830161 seen 2 1 3 3014800164a10fa10d280b06072a8648ce13050a8100 diag 0 1 0 28048102686a diag 0 1 0 301006072a8648ce13040102010e1a026869 diag 0 1 4 301006072a8648ce13040102010d1b026869 diag 1 1 0 300e06072a8648ce13040102010d1a00
 ";
 
 // The count of a target's set.
@@ -248,11 +202,11 @@ fn is_record(alloc: Global, knowledge: &Knowledge, row: &str, due: &str) -> Resu
     Ok(is_at(alloc, knowledge, position, due))
 }
 
+// The list of a copy.
 fn is_list(alloc: Global, knowledge: &Knowledge, names: &str, due: &str) -> Result<bool, Unread> {
-    let Ok(due) = unescape(alloc, due) else {
-        return Err(Unread);
-    };
-    Ok(has_list(alloc, knowledge, names, Mode::Text, due.as_slice()))
+    let due = unescape(alloc, due)?;
+    let copy = copy_of(alloc, knowledge)?;
+    Ok(has_list(alloc, &copy, names, Mode::Text, due.as_slice()))
 }
 
 fn is_answer(
@@ -285,39 +239,4 @@ fn is_answered(alloc: Global, row: &str) -> Result<bool, Unread> {
 #[test]
 fn questions_are_answered_as_told(rt: HostRuntime) -> Result<(), Fail> {
     each_row(rt.alloc(), ANSWERS, is_answered)
-}
-
-// Facts of several targets and sets in no order: each kind of fact, of record and of diagnostic.
-const MIXED: &str = "\
-seen 2 1 3 3014800164a10fa10d280b06072a8648ce13050a8100
-seen 0 1 3 3016800164a111a10f280d06072a8648ce13050a8102225c
-seen 0 2 1 301a800164a115a213301106072a8648ce130401020200ee1b02225c
-seen 0 1 2 300ca10aa1082806020105810161
-seen 0 1 1 3013a111a10f280d06072a8648ce13050a81020aff
-seen 1 1 1 3005a103830161
-failed 2 0 -
-failed 0 1 -
-count 0 2 3
-count 0 1 7
-diag 0 1 4 301006072a8648ce13040102010d1b026869
-diag 0 1 0 301006072a8648ce13040102010e1a026869
-diag 0 1 0 28048102686a
-diag 1 1 0 300e06072a8648ce13040102010d1a00
-";
-
-// Facts in fact order: counts, failures, records, diagnostics.
-const SORTED: &str =
-    " count 0 1 7 count 0 2 3 failed 0 1 failed 2 0 seen 0 1 1 3013a111a10f280d06072a8648ce13050a81020aff seen 0 1 2 300ca10aa1082806020105810161 seen 0 1 3 3016800164a111a10f280d06072a8648ce13050a8102225c seen 0 2 1 301a800164a115a213301106072a8648ce130401020200ee1b02225c seen 1 1 1 3005a103830161 seen 2 1 3 3014800164a10fa10d280b06072a8648ce13050a8100 diag 0 1 0 28048102686a diag 0 1 0 301006072a8648ce13040102010e1a026869 diag 0 1 4 301006072a8648ce13040102010d1b026869 diag 1 1 0 300e06072a8648ce13040102010d1a00";
-
-fn are_facts(alloc: Global, rows: &str, due: &str) -> bool {
-    let Ok(knowledge) = knowledge_of(alloc, rows) else {
-        return false;
-    };
-    is_true(has_facts(alloc, &knowledge, due))
-}
-
-#[test]
-fn facts_of_all_kinds_stand_in_order(rt: HostRuntime) -> Result<(), Fail> {
-    assert!(rt; are_facts(rt.alloc(), MIXED, SORTED));
-    Ok(())
 }

@@ -17,6 +17,4 @@ mod opacs;
 #[cfg(test)]
 mod saved;
 #[cfg(test)]
-mod shuffled;
-#[cfg(test)]
 mod stops;

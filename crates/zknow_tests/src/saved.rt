@@ -1,4 +1,4 @@
-// Saved files: one with each other value of each of its octets, and the largest elements that are saved.
+// Saved files: one with each other value of each of its octets, and elements that are not saved.
 use crate::facts::knowledge_of;
 use bytes::Bytes;
 use std::alloc::{AllocError, Global};
@@ -23,13 +23,6 @@ pub(crate) type Loaded = Result<(Knowledge, Names), LoadError>;
 
 pub(crate) fn load_octets(alloc: Global, file: &[u8]) -> Result<Box<Loaded>, AllocError> {
     box_value(alloc, load(alloc, file))
-}
-
-fn is_for(loaded: &Loaded, due: LoadError) -> bool {
-    match loaded {
-        Ok(_) => false,
-        Err(error) => *error == due,
-    }
 }
 
 // A file with two names and a fact of each kind.
@@ -207,54 +200,6 @@ fn save_names(alloc: Global, names: &Names) -> Result<Vec<u8>, SaveError> {
         Ok(()) => Ok(out),
         Err(error) => Err(error),
     }
-}
-
-// The headers of an element of 4,194,305 octets and of the one name within.
-const TOO_LONG: [u8; 10] = [0xa4, 0x83, 0x3f, 0xff, 0xfc, 0x80, 0x83, 0x3f, 0xff, 0xf7];
-
-fn has_names(loaded: &Loaded, due: &Names) -> bool {
-    match loaded {
-        Ok((_, names)) => names.as_slice() == due.as_slice(),
-        Err(_) => false,
-    }
-}
-
-fn are_loaded(alloc: Global, file: &[u8], names: &Names) -> bool {
-    let Ok(loaded) = load_octets(alloc, file) else {
-        return false;
-    };
-    file.len() == 4_194_304 && has_names(&loaded, names)
-}
-
-// Whether the file is refused with one octet more.
-fn is_too_long(alloc: Global, file: &mut Vec<u8>) -> bool {
-    if file.push(b'n').is_err() {
-        return false;
-    }
-    for (octet, due) in file.iter_mut().zip(TOO_LONG) {
-        *octet = due;
-    }
-    let Ok(loaded) = load_octets(alloc, file.as_slice()) else {
-        return false;
-    };
-    is_for(&loaded, LoadError::NotKnowledge { at: 0 })
-}
-
-fn is_longest(alloc: Global, len: usize) -> bool {
-    let Ok(names) = one_name(alloc, len) else {
-        return false;
-    };
-    let Ok(mut file) = save_names(alloc, &names) else {
-        return false;
-    };
-
-    are_loaded(alloc, file.as_slice(), &names) && is_too_long(alloc, &mut file)
-}
-
-#[test]
-fn an_element_of_4194304_octets_is_saved_and_loaded(rt: HostRuntime) -> Result<(), Fail> {
-    assert!(rt; is_longest(rt.alloc(), 4_194_294));
-    Ok(())
 }
 
 fn is_longer(alloc: Global, len: usize) -> bool {
