@@ -48,7 +48,7 @@ AGAIN = 5
 
 def messages():
     """The encodings of APDUs that the repository keeps, of all kinds."""
-    with open(os.path.join(ROOT, "crates/zapdu_tests/src/apdus.rt"), encoding="utf-8") as file:
+    with open(os.path.join(ROOT, "crates/zknow_tests/src/apdus.rt"), encoding="utf-8") as file:
         return [bytes.fromhex(row)
                 for row in re.findall(r"^\s*(?:r#\")?([0-9a-f]{10,}) (?:\w+Re\w+|close) ", file.read(), re.M)]
 

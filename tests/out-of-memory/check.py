@@ -80,7 +80,7 @@ RUNS = [
     (["ask", "--help"], None),
 ]
 TESTS = [
-    ("zapdu_tests", "elements::pieces::a_session_goes_on_where_memory_was_refused"),
+    ("zknow_tests", "elements::pieces::a_session_goes_on_where_memory_was_refused"),
     ("zknow_tests", "known::what_is_known_grows_where_memory_was_refused"),
     ("zvectors", "pool::memory::a_session_goes_on_where_memory_was_refused"),
     ("zvectors", "failing::a_talk_tells_where_memory_was_refused"),

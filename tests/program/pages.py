@@ -44,7 +44,7 @@ WRONG = (
     ("crates/zber/CALLING.md", "- `next` returns a message (`after`: `StreamLaws`).", "StreamLaws"),
     ("crates/zber/CALLING.md", "- `laws::schedule_laws` has more.", "laws::schedule_laws"),
     ("crates/zber/CALLING.md", "- `parse_pqf` reads a query.", "parse_pqf"),
-    ("crates/zber/CALLING.md", "Tests: `zapdu_tests` (`elements/framing.rt`, `farming.rt`).", "farming.rt"),
+    ("crates/zber/CALLING.md", "Tests: `zknow_tests` (`elements/framing.rt`, `farming.rt`).", "farming.rt"),
     ("crates/zber/CALLING.md", "```rust\nuse zber::{Framer, Farmer};\n```", "zber::Farmer"),
     ("crates/zplan/CALLING.md", "- `note_answered(first)` notes a reply.", "note_answered(first)"),
     ("crates/zasn/CALLING.md", "With `calls: zasn zbir` it runs.", "calls: zasn zbir"),
