@@ -27,6 +27,8 @@ WORLDS = 500
 # the largest size of a set of which all records come with the response
 ALL = 1000
 MANY = 10_000
+# a run has to end within so many seconds
+MOST = 300
 # seconds behind each piece of a request
 REST = 0.001
 
@@ -224,7 +226,7 @@ def tables():
 
 
 def printed(zmeta, room, name, world):
-    ran = subprocess.run([zmeta, "run", written(room, name, world)], capture_output=True, cwd=room, timeout=END)
+    ran = subprocess.run([zmeta, "run", written(room, name, world)], capture_output=True, cwd=room, timeout=MOST)
     return ran.returncode, ran.stdout, ran.stderr
 
 
