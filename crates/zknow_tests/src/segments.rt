@@ -73,7 +73,7 @@ pub(crate) fn apdu_encoding(alloc: Global, node: &Node) -> Result<String, Unread
 
 // What a string is made into: one segment, three, three within one, none; and, for what none says, primitive with no
 // octets.
-#[derive(Clone, Copy, PartialEq, Eq)]
+#[derive(Clone, Copy)]
 enum Form {
     One,
     Three,
@@ -121,7 +121,7 @@ fn segments(alloc: Global, octets: &Bytes, form: Form) -> Result<Vec<Node>, Allo
 }
 
 fn form_string(alloc: Global, tag: Tag, octets: &Bytes, form: Form) -> Result<Node, AllocError> {
-    if form == Form::Empty {
+    if matches!(form, Form::Empty) {
         return Ok(Node::prim(tag, Bytes::new()));
     }
     match segments(alloc, octets, form) {

@@ -21,6 +21,14 @@ fn goes(alloc: Global, plan: Plan) -> Result<bool, Fault> {
     Ok(first == second)
 }
 
+// What a failing test shows of a run.
+fn shown(told: Result<bool, Fault>) -> (&'static str, u32) {
+    match told {
+        Ok(_) => ("another run", 0),
+        Err(fault) => fault.shown(),
+    }
+}
+
 fn go_well(
     rt: &(impl Abort + AllocGlobal),
     seeds: u64,
@@ -29,7 +37,8 @@ fn go_well(
 ) -> Result<(), Fail> {
     for seed in 0..seeds {
         let told = goes(rt.alloc(), plan_of(seed, at_once, gives_up));
-        assert_eq!(rt; told, Ok(true), "seed {seed}");
+        let (fault, c) = shown(told);
+        assert!(rt; matches!(told, Ok(true)), "seed {seed}: {fault} {c}");
     }
     Ok(())
 }

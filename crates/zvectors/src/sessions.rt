@@ -25,7 +25,7 @@ fn databases(alloc: Global) -> Result<Seq<Bytes>, Unread> {
 }
 
 // For `dune` as a title in the database `d`, with these bounds.
-pub(crate) fn ask(alloc: Global, small: i64, large: i64, medium: i64) -> Result<Box<Ask>, Unread> {
+fn ask(alloc: Global, small: i64, large: i64, medium: i64) -> Result<Box<Ask>, Unread> {
     let Ok(databases) = databases(alloc) else {
         return Err(Unread);
     };
@@ -59,7 +59,7 @@ pub(crate) fn origin_of(alloc: Global, name: Bytes) -> Result<Box<Origin>, Alloc
     box_value(alloc, Origin::new(alloc, Settings { name }))
 }
 
-pub(crate) fn origin(alloc: Global) -> Result<Box<Origin>, AllocError> {
+fn origin(alloc: Global) -> Result<Box<Origin>, AllocError> {
     origin_of(alloc, Bytes::from_static(b"zmeta"))
 }
 
@@ -86,8 +86,8 @@ fn take_text(alloc: Global, answer: &Result<Taken, Refused>) -> Result<String, A
     }
 }
 
-/// What an APDU that is taken comes to.
-pub(crate) fn take(
+// What an APDU that is taken comes to.
+fn take(
     alloc: Global,
     origin: &mut Origin,
     apdu: &Apdu,
@@ -214,7 +214,7 @@ fn range_in(range: &str) -> Result<Range, Unread> {
 }
 
 // Ranges, `START+NUMBER` each, or `-` for none
-pub(crate) fn ranges_in(alloc: Global, row: &str) -> Result<Vec<Range>, Unread> {
+fn ranges_in(alloc: Global, row: &str) -> Result<Vec<Range>, Unread> {
     let mut ranges = Vec::new(alloc);
     if row == "-" {
         return Ok(ranges);

@@ -5,7 +5,7 @@ use std::collections::BTreeSet;
 use zoom_asking::Report;
 
 /// What happens on a connection.
-#[derive(Clone, Copy, PartialEq, Eq)]
+#[derive(Clone, Copy)]
 pub(crate) enum What {
     /// Something to be reported.
     Report(Report),
@@ -14,7 +14,7 @@ pub(crate) enum What {
 }
 
 /// What happens, when, and on which connection.
-#[derive(Clone, Copy, PartialEq, Eq)]
+#[derive(Clone, Copy)]
 pub(crate) struct Event {
     pub time: u64,
     pub c: u32,

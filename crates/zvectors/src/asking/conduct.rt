@@ -4,7 +4,7 @@ use std::alloc::Global;
 use zoom_asking::{Report, Task};
 
 /// The socket of an attempt to connect.
-#[derive(Clone, Copy, PartialEq, Eq)]
+#[derive(Clone, Copy)]
 enum Socket {
     /// The attempt was not begun.
     Ahead,
@@ -60,14 +60,14 @@ impl Conduct {
 
     fn connect(&mut self, k: usize) -> bool {
         let socket = self.socket(k);
-        let may = socket == Some(Socket::Ahead) || socket == Some(Socket::Waiting);
+        let may = matches!(socket, Some(Socket::Ahead) | Some(Socket::Waiting));
         self.put(k, Socket::Open);
         may && self.connected.is_none()
     }
 
     fn leave(&mut self, k: usize) -> bool {
         let socket = self.socket(k);
-        let may = socket == Some(Socket::Open) || socket == Some(Socket::Connected);
+        let may = matches!(socket, Some(Socket::Open) | Some(Socket::Connected));
         self.left = self.left || self.connected == Some(k);
         self.put(k, Socket::Left);
         may
@@ -91,7 +91,7 @@ impl Conduct {
 
     /// Notes the end of an attempt, if it is open. Returns whether it was.
     fn note_attempt(&mut self, k: usize, socket: Socket) -> bool {
-        let was_open = self.socket(k) == Some(Socket::Open);
+        let was_open = matches!(self.socket(k), Some(Socket::Open));
         if was_open {
             self.put(k, socket);
         }
@@ -125,7 +125,7 @@ impl Conduct {
     /// Whether each socket that was open is closed.
     pub(crate) fn is_clean(&self) -> bool {
         for socket in &self.sockets {
-            if *socket == Socket::Open || *socket == Socket::Connected {
+            if matches!(socket, Socket::Open | Socket::Connected) {
                 return false;
             }
         }

@@ -2,7 +2,7 @@
 use std::alloc::{AllocError, AllocFailed};
 
 /// What went wrong in a run.
-#[derive(Clone, Copy, Debug, PartialEq, Eq)]
+#[derive(Clone, Copy)]
 pub enum Fault {
     /// There was no memory, or an index was out of range.
     Unread,
@@ -24,6 +24,24 @@ pub enum Fault {
     End(u32),
     /// What is known of this connection is not what its host has.
     Known(u32),
+}
+
+impl Fault {
+    /// What a failing test shows: what went wrong, and the connection, or 0.
+    pub fn shown(self) -> (&'static str, u32) {
+        match self {
+            Fault::Unread => ("Unread", 0),
+            Fault::Action(c) => ("Action", c),
+            Fault::Moved => ("Moved", 0),
+            Fault::Stuck => ("Stuck", 0),
+            Fault::Late => ("Late", 0),
+            Fault::Due => ("Due", 0),
+            Fault::Endless => ("Endless", 0),
+            Fault::Unleft(c) => ("Unleft", c),
+            Fault::End(c) => ("End", c),
+            Fault::Known(c) => ("Known", c),
+        }
+    }
 }
 
 impl From<AllocError> for Fault {

@@ -7,33 +7,22 @@ use zapdu::{Content, Record, RecordBody};
 use zknow::Known;
 use zoom_pool::{Meta, Reason, State};
 
-/// How a connection may end.
-#[derive(Clone, Copy, PartialEq, Eq)]
-enum Due {
-    /// Fresh, since it was not asked.
-    Nothing,
-    /// Closed, with all that the host has.
-    All,
-    Failed(Reason),
-    /// Failed, for whichever reason.
-    Fails,
-    /// Closed or Failed.
-    Any,
-}
-
-fn due_to(nature: Nature) -> Due {
+/// Whether a host of this nature may leave a connection in this state.
+fn is_due(nature: Nature, state: State) -> bool {
     match nature.temper {
         Temper::Honest
         | Temper::FirstSilent
         | Temper::NoSocket
         | Temper::ResetsAtClose
-        | Temper::IgnoresClose => Due::All,
-        Temper::Unasked => Due::Nothing,
-        Temper::Silent => Due::Failed(Reason::Read),
-        Temper::Refuses | Temper::Unnamed | Temper::Unresolved => Due::Failed(Reason::Connect),
-        Temper::Trickles | Temper::Lies => Due::Fails,
-        Temper::Unwritable if nature.number == 0 => Due::Failed(Reason::Write),
-        Temper::Dies | Temper::Garbles | Temper::Unwritable => Due::Any,
+        | Temper::IgnoresClose => state == State::Closed,
+        Temper::Unasked => state == State::Fresh,
+        Temper::Silent => state == State::Failed(Reason::Read),
+        Temper::Refuses | Temper::Unnamed | Temper::Unresolved => {
+            state == State::Failed(Reason::Connect)
+        }
+        Temper::Trickles | Temper::Lies => matches!(state, State::Failed(_)),
+        Temper::Unwritable if nature.number == 0 => state == State::Failed(Reason::Write),
+        Temper::Dies | Temper::Garbles | Temper::Unwritable => is_over(state),
     }
 }
 
@@ -92,24 +81,17 @@ fn is_over(state: State) -> bool {
 /// Whether a connection is over, or was not chosen.
 pub(crate) fn is_settled(meta: &Meta, c: u32, nature: Nature) -> Result<bool, Fault> {
     let state = state_of(meta, c)?;
-    Ok(is_over(state) || nature.temper == Temper::Unasked)
+    Ok(is_over(state) || matches!(nature.temper, Temper::Unasked))
 }
 
 /// Fails unless a connection ended as its host deserves.
 pub(crate) fn judge(alloc: Global, meta: &Meta, c: u32, nature: Nature) -> Result<(), Fault> {
     let state = state_of(meta, c)?;
-    let holds = match due_to(nature) {
-        Due::Nothing => state == State::Fresh,
-        Due::All => state == State::Closed,
-        Due::Failed(reason) => state == State::Failed(reason),
-        Due::Fails => matches!(state, State::Failed(_)),
-        Due::Any => is_over(state),
-    };
-    if !holds {
+    if !is_due(nature, state) {
         return Err(Fault::End(c));
     }
     if state == State::Closed
-        && nature.temper != Temper::Garbles
+        && !matches!(nature.temper, Temper::Garbles)
         && !is_all_known(alloc, meta, c, nature.records)?
     {
         return Err(Fault::Known(c));

@@ -101,7 +101,7 @@ impl Peer {
     ) -> Result<(), Fault> {
         let time = now.saturating_add(dice.number_below(5 * MILLISECOND));
         self.writes = self.writes.saturating_add(1);
-        if self.nature.temper == Temper::Unwritable && self.writes > self.nature.number {
+        if matches!(self.nature.temper, Temper::Unwritable) && self.writes > self.nature.number {
             return agenda.put(self.event(time, Report::Unwritable));
         }
         agenda.put(self.event(time, Report::Taken))?;
@@ -157,7 +157,7 @@ impl Peer {
     /// Changes an octet of what is added from a place on, if it is its turn.
     fn garble(&mut self, from: usize) {
         let at = self.nature.number as usize;
-        if self.nature.temper == Temper::Garbles && at >= from {
+        if matches!(self.nature.temper, Temper::Garbles) && at >= from {
             if let Some(octet) = self.sent.get_mut(at) {
                 *octet ^= 0x15;
             }
@@ -166,7 +166,7 @@ impl Peer {
 
     /// The size of the next piece, and how long after the last it comes.
     fn next_piece(&self, dice: &mut Dice) -> (usize, u64) {
-        if self.nature.temper == Temper::Trickles {
+        if matches!(self.nature.temper, Temper::Trickles) {
             let delay = dice.number_below(300 * MILLISECOND);
             return (1, delay.saturating_add(600 * MILLISECOND));
         }
@@ -176,7 +176,7 @@ impl Peer {
 
     /// How many octets it sends before it dies.
     fn most(&self) -> usize {
-        if self.nature.temper == Temper::Dies {
+        if matches!(self.nature.temper, Temper::Dies) {
             self.sent.len().min(self.nature.number as usize)
         } else {
             self.sent.len()
@@ -217,12 +217,12 @@ impl Peer {
             .last
             .max(now)
             .saturating_add(dice.number_below(MILLISECOND));
-        let dead = self.nature.temper == Temper::Dies && self.most() < self.sent.len();
-        if dead || (self.host.closed() && self.nature.temper == Temper::Honest) {
+        let dead = matches!(self.nature.temper, Temper::Dies) && self.most() < self.sent.len();
+        if dead || (self.host.closed() && matches!(self.nature.temper, Temper::Honest)) {
             self.ended = true;
             return agenda.put(self.event(time, Report::End));
         }
-        if self.ended && self.nature.temper == Temper::ResetsAtClose {
+        if self.ended && matches!(self.nature.temper, Temper::ResetsAtClose) {
             return agenda.put(self.event(time, Report::Unreadable));
         }
         Ok(())

@@ -56,7 +56,7 @@ fn natures(alloc: Global, hosts: u32, dice: &mut Dice) -> Result<Vec<Nature>, Fa
 
 /// Whom to ask, unless the host is not chosen.
 fn asked_host(nature: Nature) -> Option<AskedHost> {
-    if nature.temper == Temper::Unasked {
+    if matches!(nature.temper, Temper::Unasked) {
         return None;
     }
     Some(AskedHost {
@@ -97,7 +97,7 @@ fn agenda(alloc: Global, natures: &[Nature], now: u64) -> Result<Agenda, Fault> 
     let mut agenda = Agenda::new(alloc);
     let mut c = 0;
     for nature in natures {
-        if nature.temper != Temper::Unasked && nature.temper != Temper::Unresolved {
+        if !matches!(nature.temper, Temper::Unasked | Temper::Unresolved) {
             agenda.put(Event {
                 time: now.saturating_add(nature.resolves_in),
                 c,

@@ -5,7 +5,7 @@ use zber_rows::dice::Dice;
 pub(crate) const MILLISECOND: u64 = 1_000_000;
 
 /// How a host behaves.
-#[derive(Clone, Copy, PartialEq, Eq)]
+#[derive(Clone, Copy)]
 pub(crate) enum Temper {
     /// It is not chosen.
     Unasked,
@@ -40,7 +40,7 @@ pub(crate) enum Temper {
 }
 
 /// A temper, and what it takes to behave so.
-#[derive(Clone, Copy, PartialEq, Eq)]
+#[derive(Clone, Copy)]
 pub(crate) struct Nature {
     pub temper: Temper,
     /// How many addresses it has.
