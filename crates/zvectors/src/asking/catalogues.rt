@@ -2,6 +2,7 @@
 ghost use Rattle.std.specs.Prelude.{◌≡◌, ◌+◌, ◌≤◌, [], length, IfOk, OnOk};
 ghost use Rattle.zplan.specs.Ranges.{AreWanted, positions};
 ghost use Rattle.zoom_questions.specs.Askable.{IsAskable, AreAskable};
+ghost use Rattle.zoom_questions.specs.NewTargets.{IsNew};
 
 use crate::asking::fault::Fault;
 use bytes::Bytes;
@@ -49,7 +50,9 @@ pub(crate) fn target_of(
     alloc: Global,
     entries: Vec<Entry>,
     settings: TargetSettings,
-) -> Result<Target, Fault> {
+) -> Result<Target, Fault>
+    ensures { IfOk result IsNew }
+{
     if entries.len() > 1_000_000 {
         return Err(Fault::Unread);
     }
