@@ -23,10 +23,13 @@ from saved import MARC21, element, integer, object_identifier, record
 from served import unfound
 
 HERE = os.path.dirname(os.path.abspath(__file__))
-WORLDS = 500
+# random worlds, and how many of them one target has
+WORLDS, PART = 500, 50
 # the largest size of a set of which all records come with the response
 ALL = 1000
 MANY = 10_000
+# so many searches are sent at a time
+SIDE = 25
 # a run has to end within so many seconds
 MOST = 300
 # seconds behind each piece of a request
@@ -274,10 +277,14 @@ def searched(zmeta, room, databases, searches):
     with serving(zmeta, room, "1048576 cn", databases, 1) as server, connected(server.port) as link:
         if answer(link, [INIT], ACCEPTED) != ACCEPTED:
             yield "Init"
-        for told, names, query, due in searches:
-            got = answer(link, [searching(1, b"1", names, query, ALL, ALL + 1)], due)
-            if got != due:
-                yield f"{told}: {got.hex()}\n    {due.hex()} is due"
+        searches = [*searches]
+        for at in range(0, len(searches), SIDE):
+            some = searches[at : at + SIDE]
+            link.sendall(b"".join(searching(1, b"1", names, query, ALL, ALL + 1) for _, names, query, _ in some))
+            for told, _, _, due in some:
+                got = received(link, len(due))
+                if got != due:
+                    yield f"{told}: {got.hex()}\n    {due.hex()} is due"
         if answer(link, [CLOSE], CLOSE) != CLOSE:
             yield "Close"
         fault = server.fault()
@@ -400,10 +407,10 @@ def is_match(fields, query):
     return (first and second, first or second, first and not second)[operator]
 
 
-def any_searches():
-    """A target's databases, two of each world; and searches of them."""
+def any_searches(seeds):
+    """A target's databases, two of the world of each seed; and searches of them."""
     databases, searches = {}, []
-    for seed in range(WORLDS):
+    for seed in seeds:
         dice = random.Random(seed)
         world = {name: any_entries(dice, name + str(seed)) for name in "ab"}
         databases |= {name + str(seed): entries for name, entries in world.items()}
@@ -418,15 +425,18 @@ def any_searches():
 
 def faults(zmeta, room):
     """What is not as it should be, and how many sessions, rows and searches there were."""
-    rows, (databases, searches) = tables(), any_searches()
+    rows, count = tables(), 0
     wrong = [*faults_of_sessions(zmeta, room), *faults_of_small(zmeta, room)]
     wrong += faults_of_matched(zmeta, room, rows["matched"])
     wrong += faults_of_many(zmeta, room)
     wrong += searched(zmeta, room, PLACED, placed(zmeta, rows["placed"]))
     wrong += searched(zmeta, room, REPEATED, repeated(rows["repeated"]))
     wrong += searched(zmeta, room, FAULTS, failed(zmeta, rows["fault"]))
-    wrong += searched(zmeta, room, databases, searches)
-    return wrong, len(sessions()), sum(map(len, rows.values())), len(searches)
+    for first in range(0, WORLDS, PART):
+        databases, searches = any_searches(range(first, first + PART))
+        wrong += searched(zmeta, room, databases, searches)
+        count += len(searches)
+    return wrong, len(sessions()), sum(map(len, rows.values())), count
 
 
 def main():
