@@ -274,10 +274,11 @@ def element_of(zmeta, query):
 
 def searched(zmeta, room, databases, searches):
     """What differs of searches, each of names and the element around its query, with the reply that is due."""
+    # a server waits for a while only
+    searches = [*searches]
     with serving(zmeta, room, "1048576 cn", databases, 1) as server, connected(server.port) as link:
         if answer(link, [INIT], ACCEPTED) != ACCEPTED:
             yield "Init"
-        searches = [*searches]
         for at in range(0, len(searches), SIDE):
             some = searches[at : at + SIDE]
             link.sendall(b"".join(searching(1, b"1", names, query, ALL, ALL + 1) for _, names, query, _ in some))
